@@ -1,0 +1,239 @@
+-- The laws of `pack`, `count`, `any` and `weight`. "For i from 1 to n" is said of `suc i` with i below n.
+use mathlib.Core.Path.{_≡_, refl, ap, ap₂, sym, _∙_}
+use mathlib.Core.Bool.{Bool, true, false, not, xor, _||_, or-true, or-false, true≢false}
+use mathlib.Core.Logic.{_⊎_, inl, inr, ⊎-elim}
+use Prim.Native.Nat.{ℕ, zero, suc, _+_, _*_, _-_, _/_, _%_, _^_, _≤_, _<_}
+use native.Mathlib.Nat.{mod-eq-of-lt, mod-one, mod-lt, add-zero, eq-zero-or-pos, pow-succ'}
+use native.Mathlib.Numerals.{one-add}
+use native.Mathlib.Omega.{arith}
+use borrow.Author.Tests.{ltb-true, ltb-false, lt-ltb, le-ltb}
+use lib.Bits.{bitXor, xor-lt}
+use lib.Dec.{eqb, ltb}
+use lib.Count.{ones, ones-cat}
+use lib.Pow.{pow-pos, high, low, mod-pow-add}
+use Rattle.cube.specs.Bits.{bit, place, flip, weight}
+use Rattle.cube.specs.Count.{one, pack, count, any}
+use Rattle.cube.proofs.Order.{lt-or-ge, eq-or-ne}
+use Rattle.cube.proofs.Bits.{bit-zero, bit-xor, bit-mod, bit-flip, bit-flip-other, flip-lt}
+
+pub one-le : (b : Bool) → one b ≤ 1
+one-le true = omega arith
+one-le false = omega arith
+
+one-eqb : (d : ℕ) → d < 2 → one (eqb d 1) ≡ d
+one-eqb zero h = refl
+one-eqb (suc zero) h = refl
+one-eqb (suc (suc d)) h = absurd (omega arith)
+
+eqb-one : (b : Bool) → eqb (one b % 2) 1 ≡ b
+eqb-one true = refl
+eqb-one false = refl
+
+one-times : (b : Bool) (x : ℕ) → one b * x ≤ x
+one-times true x = omega arith
+one-times false x = omega arith
+
+-- ---- pack
+
+pub pack-lt : (p : ℕ → Bool) (n : ℕ) → pack p n < 2 ^ n
+unfolding pack
+pack-lt p zero = omega arith
+pack-lt p (suc n) = omega (arith, pack-lt p n, one-times (p (suc n)) (2 ^ n), pow-succ' 2 n)
+
+pub pack-cong : (p q : ℕ → Bool) (n : ℕ) → ((i : ℕ) → i < n → p (suc i) ≡ q (suc i)) → pack p n ≡ pack q n
+unfolding pack
+pack-cong p q zero h = refl
+pack-cong p q (suc n) h = ap₂ (λ (x : ℕ) (b : Bool). x + one b * 2 ^ n) (pack-cong p q n (λ i l. h i (omega arith))) (h n (omega arith))
+
+-- the bits of a packed word
+pub bit-pack : (p : ℕ → Bool) (n i : ℕ) → i < n → bit (pack p n) (suc i) ≡ p (suc i)
+unfolding pack bit
+bit-pack p zero i h = absurd (omega arith)
+bit-pack p (suc n) i h = ⊎-elim (λ (l : i < n). lower l (bit-pack p n i l)) top (lt-or-ge i n)
+  where
+    swap : pack p n + one (p (suc n)) * 2 ^ n ≡ one (p (suc n)) * 2 ^ n + pack p n
+    swap = omega arith
+    lower : i < n → bit (pack p n) (suc i) ≡ p (suc i) → bit (pack p n + one (p (suc n)) * 2 ^ n) (suc i) ≡ p (suc i)
+    lower l e =
+        sym (bit-mod (pack p n + one (p (suc n)) * 2 ^ n) n (suc i) l)
+        ∙ ap (λ (x : ℕ). bit x (suc i)) (ap (λ (x : ℕ). x % 2 ^ n) swap ∙ low (one (p (suc n))) n (pack-lt p n))
+        ∙ e
+    top : n ≤ i → bit (pack p n + one (p (suc n)) * 2 ^ n) (suc i) ≡ p (suc i)
+    top l =
+        let e : i ≡ n = omega arith in
+        rw e (ap (λ (x : ℕ). eqb (x % 2) 1) (ap (λ (x : ℕ). x / 2 ^ n) swap ∙ high (one (p (suc n))) n (pack-lt p n)) ∙ eqb-one (p (suc n)))
+
+-- the word with the bits of x is x below 2^n
+pub pack-bit : (x n : ℕ) → pack (bit x) n ≡ x % 2 ^ n
+unfolding pack bit
+pack-bit x zero = sym (mod-one x)
+pack-bit x (suc n) =
+    omega (arith, pack-bit x n, mod-pow-add x 1 n, ap (λ (k : ℕ). x % 2 ^ k) (one-add n),
+    ap (λ (d : ℕ). d * 2 ^ n) (one-eqb (x / 2 ^ n % 2) (omega arith)))
+
+pub pack-own : (x n : ℕ) → x < 2 ^ n → pack (bit x) n ≡ x
+pack-own x n h = pack-bit x n ∙ mod-eq-of-lt h
+
+-- two words below 2^n with the same bits are equal
+pub bit-ext : (x y n : ℕ) → x < 2 ^ n → y < 2 ^ n → ((i : ℕ) → i < n → bit x (suc i) ≡ bit y (suc i)) → x ≡ y
+bit-ext x y n hx hy h = sym (pack-own x n hx) ∙ pack-cong (bit x) (bit y) n h ∙ pack-own y n hy
+
+-- the word with the other bits
+pub pack-not : (p : ℕ → Bool) (n : ℕ) → pack p n + pack (λ i. not (p i)) n ≡ 2 ^ n - 1
+unfolding pack
+pack-not p zero = refl
+pack-not p (suc n) = omega (arith, pack-not p n, shared (p (suc n)), pow-pos n)
+  where
+    shared : (b : Bool) → one b * 2 ^ n + one (not b) * 2 ^ n ≡ 2 ^ n
+    shared true = omega arith
+    shared false = omega arith
+
+-- a packed word is 0 exactly where no bit is set
+pub pack-none : (p : ℕ → Bool) (n : ℕ) → pack p n ≡ 0 → (i : ℕ) → i < n → p (suc i) ≡ false
+pack-none p n e i h = sym (bit-pack p n i h) ∙ ap (λ (x : ℕ). bit x (suc i)) e ∙ bit-zero (suc i)
+
+pub pack-some : (p : ℕ → Bool) (n i : ℕ) → i < n → p (suc i) ≡ true → 0 < pack p n
+pack-some p n i h e = ⊎-elim (λ (z : pack p n ≡ 0). absurd (true≢false (sym e ∙ pack-none p n z i h))) (λ l. l) (eq-zero-or-pos (pack p n))
+
+-- ---- count
+
+pub count-cong : (p q : ℕ → Bool) (n : ℕ) → ((i : ℕ) → i < n → p (suc i) ≡ q (suc i)) → count p n ≡ count q n
+unfolding count
+count-cong p q zero h = refl
+count-cong p q (suc n) h = ap₂ (λ (x : ℕ) (b : Bool). x + one b) (count-cong p q n (λ i l. h i (omega arith))) (h n (omega arith))
+
+pub count-le : (p : ℕ → Bool) (n : ℕ) → count p n ≤ n
+unfolding count
+count-le p zero = omega arith
+count-le p (suc n) = omega (arith, count-le p n, one-le (p (suc n)))
+
+one-not : (b : Bool) → one b + one (not b) ≡ 1
+one-not true = refl
+one-not false = refl
+
+pub count-not : (p : ℕ → Bool) (n : ℕ) → count p n + count (λ i. not (p i)) n ≡ n
+unfolding count
+count-not p zero = refl
+count-not p (suc n) = omega (arith, count-not p n, one-not (p (suc n)))
+
+one-none : (b : Bool) → one b ≡ 0 → b ≡ false
+one-none true e = absurd (omega arith)
+one-none false e = refl
+
+-- where the count is 0 no i has p
+pub count-none : (p : ℕ → Bool) (n : ℕ) → count p n ≡ 0 → (i : ℕ) → i < n → p (suc i) ≡ false
+unfolding count
+count-none p zero e i h = absurd (omega arith)
+count-none p (suc n) e i h = ⊎-elim (λ (l : i < n). count-none p n (omega arith) i l) last (lt-or-ge i n)
+  where
+    last : n ≤ i → p (suc i) ≡ false
+    last l = let same : i ≡ n = omega arith in rw same (one-none (p (suc n)) (omega arith))
+
+-- some i has p exactly where the count is not 0
+pub any-count : (p : ℕ → Bool) (n : ℕ) → any p n ≡ ltb 0 (count p n)
+unfolding any count
+any-count p zero = refl
+any-count p (suc n) = go (any-count p n) (p (suc n))
+  where
+    go : any p n ≡ ltb 0 (count p n) → (b : Bool) → (any p n || b) ≡ ltb 0 (count p n + one b)
+    go ih true = or-true (any p n) ∙ sym (lt-ltb 0 (count p n + 1) (omega arith))
+    go ih false = or-false (any p n) ∙ ih ∙ ap (ltb 0) (sym (add-zero (count p n)))
+
+-- of two sets of dimensions that together count more than n, some dimension is in both
+pub both : (p q : ℕ → Bool) (n : ℕ) → n < count p n + count q n → (i : ℕ) × (i < n) × (p (suc i) ≡ true) × (q (suc i) ≡ true)
+unfolding count
+both p q zero h = absurd (omega arith)
+both p q (suc n) h = go (p (suc n)) (q (suc n)) refl refl (both p q n)
+  where
+    Found : ℕ → Type 0
+    Found m = (i : ℕ) × (i < m) × (p (suc i) ≡ true) × (q (suc i) ≡ true)
+    more : Found n → Found (suc n)
+    more (i, l, u, v) = (i, omega arith, u, v)
+    go : (a b : Bool) → p (suc n) ≡ a → q (suc n) ≡ b → (n < count p n + count q n → Found n) → Found (suc n)
+    go true true u v rest = (n, omega arith, u, v)
+    go true false u v rest = more (rest (omega (arith, ap one u, ap one v)))
+    go false true u v rest = more (rest (omega (arith, ap one u, ap one v)))
+    go false false u v rest = more (rest (omega (arith, ap one u, ap one v)))
+
+-- one dimension less
+pub count-drop : (p q : ℕ → Bool) (n i : ℕ) → i < n → p (suc i) ≡ true → q (suc i) ≡ false
+  → ((j : ℕ) → (j ≡ i → ⊥) → p (suc j) ≡ q (suc j)) → count p n ≡ suc (count q n)
+unfolding count
+count-drop p q zero i h ep eq same = absurd (omega arith)
+count-drop p q (suc n) i h ep eq same = ⊎-elim last (λ (ne : n ≡ i → ⊥). earlier ne (count-drop p q n i (omega (arith, ne)) ep eq same)) (eq-or-ne n i)
+  where
+    last : n ≡ i → count p n + one (p (suc n)) ≡ suc (count q n + one (q (suc n)))
+    last e =
+        omega (arith, count-cong p q n (λ j l. same j (λ w. omega arith)),
+        ap one (ap (λ (j : ℕ). p (suc j)) e ∙ ep), ap one (ap (λ (j : ℕ). q (suc j)) e ∙ eq))
+    earlier : (n ≡ i → ⊥) → count p n ≡ suc (count q n) → count p n + one (p (suc n)) ≡ suc (count q n + one (q (suc n)))
+    earlier ne ih = omega (arith, ap one (same n ne))
+
+-- ---- weight
+
+ones-digit : (d : ℕ) → d < 2 → ones d ≡ one (eqb d 1)
+unfolding ones
+ones-digit zero h = refl
+ones-digit (suc zero) h = refl
+ones-digit (suc (suc d)) h = absurd (omega arith)
+
+pub weight-count : (x n : ℕ) → weight (x % 2 ^ n) ≡ count (bit x) n
+unfolding bit count ones
+weight-count x zero = ap ones (mod-one x)
+weight-count x (suc n) =
+    ap ones (ap (λ (k : ℕ). x % 2 ^ k) (sym (one-add n)) ∙ mod-pow-add x 1 n)
+    ∙ ones-cat n (x / 2 ^ n % 2) (x % 2 ^ n) (mod-lt x (pow-pos n))
+    ∙ omega (arith, weight-count x n, ones-digit (x / 2 ^ n % 2) (omega arith))
+
+
+-- the weight of a number below 2^n
+pub weight-below : (n x : ℕ) → x < 2 ^ n → weight x ≡ count (bit x) n
+weight-below n x h = ap weight (sym (mod-eq-of-lt h)) ∙ weight-count x n
+
+pub weight-le : (n x : ℕ) → x < 2 ^ n → weight x ≤ n
+weight-le n x h = omega (arith, weight-below n x h, count-le (bit x) n)
+
+elsewhere : (x i j : ℕ) → (j ≡ i → ⊥) → bit (flip x (suc i)) (suc j) ≡ bit x (suc j)
+elsewhere x i j ne = bit-flip-other x (suc i) (suc j) (λ e. ne (omega arith))
+
+-- crossing a dimension that is set makes it one less
+pub weight-off : (n x i : ℕ) → x < 2 ^ n → i < n → bit x (suc i) ≡ true → weight x ≡ suc (weight (flip x (suc i)))
+weight-off n x i hx hi e =
+    weight-below n x hx
+    ∙ count-drop (bit x) (bit (flip x (suc i))) n i hi e (bit-flip x i ∙ ap not e) (λ j ne. sym (elsewhere x i j ne))
+    ∙ ap suc (sym (weight-below n (flip x (suc i)) (flip-lt n x (suc i) hx hi)))
+
+-- crossing one that isn't makes it one more
+pub weight-on : (n x i : ℕ) → x < 2 ^ n → i < n → bit x (suc i) ≡ false → weight (flip x (suc i)) ≡ suc (weight x)
+weight-on n x i hx hi e =
+    weight-below n (flip x (suc i)) (flip-lt n x (suc i) hx hi)
+    ∙ count-drop (bit (flip x (suc i))) (bit x) n i hi (bit-flip x i ∙ ap not e) e (elsewhere x i)
+    ∙ ap suc (sym (weight-below n x hx))
+
+-- only 0 weighs nothing
+pub weight-zero : (n x : ℕ) → x < 2 ^ n → weight x ≡ 0 → x ≡ 0
+weight-zero n x hx e = bit-ext x 0 n hx (pow-pos n) (λ i l. count-none (bit x) n (sym (weight-below n x hx) ∙ e) i l ∙ sym (bit-zero (suc i)))
+
+-- ---- relative addresses
+
+cancel : (a r p : Bool) → xor (xor a p) (xor r p) ≡ xor a r
+unfolding xor
+cancel true true true = refl
+cancel true true false = refl
+cancel true false true = refl
+cancel true false false = refl
+cancel false true true = refl
+cancel false true false = refl
+cancel false false true = refl
+cancel false false false = refl
+
+-- a node and its relative address, both with one dimension crossed, name the same destination
+pub xor-crossed : (n a r i : ℕ) → a < 2 ^ n → r < 2 ^ n → i ≤ n → bitXor (flip a i) (flip r i) ≡ bitXor a r
+unfolding flip
+xor-crossed n a r i ha hr hi =
+    bit-ext (bitXor (flip a i) (flip r i)) (bitXor a r) n
+    (xor-lt n (flip a i) (flip r i) (flip-lt n a i ha hi) (flip-lt n r i hr hi)) (xor-lt n a r ha hr)
+    (λ j l. bit-xor (flip a i) (flip r i) (suc j)
+    ∙ ap₂ xor (bit-xor a (place i) (suc j)) (bit-xor r (place i) (suc j))
+    ∙ cancel (bit a (suc j)) (bit r (suc j)) (bit (place i) (suc j))
+    ∙ sym (bit-xor a r (suc j)))

@@ -1,0 +1,24 @@
+-- What a job answers, in the paper's terms, and how a list of refusals is read.
+use Prim.Native.Nat.{ℕ, zero, suc}
+use mathlib.Core.Bool.{Bool, cond}
+use mathlib.Core.List.{List, [], _∷_}
+
+-- a refusal with its number, or an acceptance with its values
+pub data Reply (A : Type 0) : Type 0 where
+  refused : ℕ → Reply A
+  accepted : A → Reply A
+
+-- the number of the first test that holds, 0 where none does
+unfoldable pub refusal : List (Bool × ℕ) → ℕ
+refusal [] = 0
+refusal (t ∷ ts) = cond (t .0) (t .1) (refusal ts)
+
+-- the refusal of that number or, where it is 0, the answer
+unfoldable pub unless : {A : Type 0} → ℕ → Reply A → Reply A
+unless zero r = r
+unless (suc m) r = refused (suc m)
+
+-- lent memory afterwards: what is written, or after a refusal of that number what it was
+unfoldable pub kept : ℕ → List ℕ → List ℕ → List ℕ
+kept zero new old = new
+kept (suc m) new old = old

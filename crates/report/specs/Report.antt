@@ -1,0 +1,41 @@
+-- What a report says: which boards work, which links count as faulty, and which reports are acceptable.
+use Prim.Native.Nat.{ℕ, _^_, min}
+use mathlib.Core.Bool.{Bool, true, false, _&&_}
+use mathlib.Core.List.{List, [], _∷_}
+use lib.Dec.{eqb, leb, ltb}
+use lib.ListN.{length, getD}
+use Rattle.cube.specs.Bits.{bit, flip}
+use Rattle.report.specs.Class.{classOf, isWorking}
+use Rattle.report.specs.Health.{Cube}
+
+-- the board of node a is working; a node past the end of the list was never heard
+unfoldable pub works : List ℕ → ℕ → Bool
+unfolding classOf
+works status a = isWorking (classOf (getD status a 0))
+
+-- the link of a along dimension i counts as faulty: the word of its lower-numbered end marks it
+unfoldable pub cut : List ℕ → ℕ → ℕ → Bool
+unfolding bit flip
+cut links a i = bit (getD links (min a (flip a i)) 0) i
+
+-- the cube that a report describes
+unfoldable pub cube : ℕ → List ℕ → List ℕ → Cube
+unfolding works cut
+cube n status links = record { dim = n; works = works status; cut = cut links }
+
+-- n is from 1 to 10
+unfoldable pub dimension : ℕ → Bool
+dimension n = leb 1 n && leb n 10
+
+-- a list has one entry for each node
+unfoldable pub sized : ℕ → List ℕ → Bool
+sized n xs = eqb (length xs) (2 ^ n)
+
+-- a number is that of a node, or a relative address
+unfoldable pub within : ℕ → ℕ → Bool
+within n a = ltb a (2 ^ n)
+
+-- no link word has a bit at weight 2^n or above
+unfoldable pub narrow : ℕ → List ℕ → Bool
+narrow n [] = true
+narrow n (w ∷ ws) = ltb w (2 ^ n) && narrow n ws
