@@ -47,8 +47,10 @@ unfoldable pub lettered : List Case
 unfolding vectors cube trip classOf
 lettered =
     -- A
-    record { gives = words (vectors (cube 4 statusF zeros));
-      says = words (11 ∷ 5 ∷ 13 ∷ 0 ∷ 0 ∷ 11 ∷ 0 ∷ 13 ∷ 15 ∷ 0 ∷ 15 ∷ 13 ∷ 15 ∷ 15 ∷ 15 ∷ 15 ∷ []) }
+    record {
+      gives = words (vectors (cube 4 statusF zeros));
+      says = words (11 ∷ 5 ∷ 13 ∷ 0 ∷ 0 ∷ 11 ∷ 0 ∷ 13 ∷ 15 ∷ 0 ∷ 15 ∷ 13 ∷ 15 ∷ 15 ∷ 15 ∷ 15 ∷ []);
+    }
     -- B
     ∷ record { gives = inF 1 12; says = by (assured 5 3) (0 ∷ 8 ∷ 12 ∷ []) }
     -- C
@@ -72,8 +74,10 @@ lettered =
     -- M
     ∷ record { gives = trip 1 2 (1 ∷ 1 ∷ []) (1 ∷ 0 ∷ []) 0 1; says = refuses 7 }
     -- N
-    ∷ record { gives = classed (map classOf (0 ∷ 1 ∷ 4 ∷ 5 ∷ 253 ∷ 254 ∷ 255 ∷ []));
-      says = classed (Silent ∷ Working ∷ Working ∷ Late ∷ Late ∷ Down ∷ Empty ∷ []) }
+    ∷ record {
+      gives = classed (map classOf (0 ∷ 1 ∷ 4 ∷ 5 ∷ 253 ∷ 254 ∷ 255 ∷ []));
+      says = classed (Silent ∷ Working ∷ Working ∷ Late ∷ Late ∷ Down ∷ Empty ∷ []);
+    }
     ∷ []
 
 -- in every case the definitions give what the document says

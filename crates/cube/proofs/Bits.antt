@@ -76,6 +76,7 @@ bit-place-other (suc i) j ne = ⊎-elim above below (lt-or-ge i j)
         ∙ ap (λ (x : ℕ). bit (x % 2 ^ j) j) (pow-add 2 (i - j) j)
         ∙ ap (λ (x : ℕ). bit x j) (mul-mod-left (2 ^ (i - j)) (2 ^ j))
         ∙ bit-zero j
+
     above : i < j → bit (2 ^ i) j ≡ false
     above h = bit-high (2 ^ i) (suc i) j (pow-lt {i = i} {j = suc i} (omega arith)) (omega (arith, ne))
 

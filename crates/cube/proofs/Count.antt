@@ -53,11 +53,13 @@ bit-pack p (suc n) i h = ⊎-elim (λ (l : i < n). lower l (bit-pack p n i l)) t
   where
     swap : pack p n + one (p (suc n)) * 2 ^ n ≡ one (p (suc n)) * 2 ^ n + pack p n
     swap = omega arith
+
     lower : i < n → bit (pack p n) (suc i) ≡ p (suc i) → bit (pack p n + one (p (suc n)) * 2 ^ n) (suc i) ≡ p (suc i)
     lower l e =
         sym (bit-mod (pack p n + one (p (suc n)) * 2 ^ n) n (suc i) l)
         ∙ ap (λ (x : ℕ). bit x (suc i)) (ap (λ (x : ℕ). x % 2 ^ n) swap ∙ low (one (p (suc n))) n (pack-lt p n))
         ∙ e
+
     top : n ≤ i → bit (pack p n + one (p (suc n)) * 2 ^ n) (suc i) ≡ p (suc i)
     top l =
         let e : i ≡ n = omega arith in
@@ -68,8 +70,13 @@ pub pack-bit : (x n : ℕ) → pack (bit x) n ≡ x % 2 ^ n
 unfolding pack bit
 pack-bit x zero = sym (mod-one x)
 pack-bit x (suc n) =
-    omega (arith, pack-bit x n, mod-pow-add x 1 n, ap (λ (k : ℕ). x % 2 ^ k) (one-add n),
-    ap (λ (d : ℕ). d * 2 ^ n) (one-eqb (x / 2 ^ n % 2) (omega arith)))
+    omega (
+      arith,
+      pack-bit x n,
+      mod-pow-add x 1 n,
+      ap (λ (k : ℕ). x % 2 ^ k) (one-add n),
+      ap (λ (d : ℕ). d * 2 ^ n) (one-eqb (x / 2 ^ n % 2) (omega arith)),
+    )
 
 pub pack-own : (x n : ℕ) → x < 2 ^ n → pack (bit x) n ≡ x
 pack-own x n h = pack-bit x n ∙ mod-eq-of-lt h
@@ -147,8 +154,10 @@ both p q (suc n) h = go (p (suc n)) (q (suc n)) refl refl (both p q n)
   where
     Found : ℕ → Type 0
     Found m = (i : ℕ) × (i < m) × (p (suc i) ≡ true) × (q (suc i) ≡ true)
+
     more : Found n → Found (suc n)
     more (i, l, u, v) = (i, omega arith, u, v)
+
     go : (a b : Bool) → p (suc n) ≡ a → q (suc n) ≡ b → (n < count p n + count q n → Found n) → Found (suc n)
     go true true u v rest = (n, omega arith, u, v)
     go true false u v rest = more (rest (omega (arith, ap one u, ap one v)))
@@ -157,15 +166,20 @@ both p q (suc n) h = go (p (suc n)) (q (suc n)) refl refl (both p q n)
 
 -- one dimension less
 pub count-drop : (p q : ℕ → Bool) (n i : ℕ) → i < n → p (suc i) ≡ true → q (suc i) ≡ false
-  → ((j : ℕ) → (j ≡ i → ⊥) → p (suc j) ≡ q (suc j)) → count p n ≡ suc (count q n)
+    → ((j : ℕ) → (j ≡ i → ⊥) → p (suc j) ≡ q (suc j)) → count p n ≡ suc (count q n)
 unfolding count
 count-drop p q zero i h ep eq same = absurd (omega arith)
 count-drop p q (suc n) i h ep eq same = ⊎-elim last (λ (ne : n ≡ i → ⊥). earlier ne (count-drop p q n i (omega (arith, ne)) ep eq same)) (eq-or-ne n i)
   where
     last : n ≡ i → count p n + one (p (suc n)) ≡ suc (count q n + one (q (suc n)))
     last e =
-        omega (arith, count-cong p q n (λ j l. same j (λ w. omega arith)),
-        ap one (ap (λ (j : ℕ). p (suc j)) e ∙ ep), ap one (ap (λ (j : ℕ). q (suc j)) e ∙ eq))
+        omega (
+          arith,
+          count-cong p q n (λ j l. same j (λ w. omega arith)),
+          ap one (ap (λ (j : ℕ). p (suc j)) e ∙ ep),
+          ap one (ap (λ (j : ℕ). q (suc j)) e ∙ eq),
+        )
+
     earlier : (n ≡ i → ⊥) → count p n ≡ suc (count q n) → count p n + one (p (suc n)) ≡ suc (count q n + one (q (suc n)))
     earlier ne ih = omega (arith, ap one (same n ne))
 
@@ -184,7 +198,6 @@ weight-count x (suc n) =
     ap ones (ap (λ (k : ℕ). x % 2 ^ k) (sym (one-add n)) ∙ mod-pow-add x 1 n)
     ∙ ones-cat n (x / 2 ^ n % 2) (x % 2 ^ n) (mod-lt x (pow-pos n))
     ∙ omega (arith, weight-count x n, ones-digit (x / 2 ^ n % 2) (omega arith))
-
 
 -- the weight of a number below 2^n
 pub weight-below : (n x : ℕ) → x < 2 ^ n → weight x ≡ count (bit x) n

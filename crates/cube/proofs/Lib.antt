@@ -1,3 +1,5 @@
 pub mod Order
 pub mod Bits
 pub mod Count
+pub mod Table
+pub mod Reply

@@ -11,7 +11,7 @@ use Rattle.cube.specs.Count.{ranked}
 use Rattle.cube.specs.Reply.{Reply, refused, accepted, refusal, unless, kept}
 use Rattle.report.specs.Report.{works, cube, dimension, sized, within, narrow}
 use Rattle.vectors.specs.Safety.{vectors}
-use Rattle.routing.specs.Rules.{Choice, home, assured, lent, detour, Next, arrived, onward}
+use Rattle.routing.specs.Rules.{Choice, maskOf, hopsOf, Next, arrived, onward}
 use Rattle.routing.specs.Decide.{decide, chosen}
 use Rattle.routing.specs.Hop.{hop}
 use Rattle.journey.specs.declared.Trip.{Trip}
@@ -48,20 +48,6 @@ module _ (n : ℕ) (status links table picks : List ℕ) where
   leave s nav mask zero = accepted []
   leave s nav mask (suc k) =
       let i = taken n mask (getD picks 0 0) in via (flip s i) (hops k 1 (flip s i) (flip nav i))
-
--- the mask of an acceptance
-abbrev pub maskOf : Choice → ℕ
-maskOf home = 0
-maskOf (assured mask h) = mask
-maskOf (lent mask h) = mask
-maskOf (detour mask h) = mask
-
--- its hops
-abbrev pub hopsOf : Choice → ℕ
-hopsOf home = 0
-hopsOf (assured mask h) = h
-hopsOf (lent mask h) = h
-hopsOf (detour mask h) = h
 
 -- a whole journey: how the source was accepted, and the boards after it
 pub record Route : Type 0 where

@@ -35,6 +35,20 @@ pub data Choice : Type 0 where
   home : Choice
   assured lent detour : (mask hops : ℕ) → Choice
 
+-- the mask of an acceptance
+abbrev pub maskOf : Choice → ℕ
+maskOf home = 0
+maskOf (assured mask h) = mask
+maskOf (lent mask h) = mask
+maskOf (detour mask h) = mask
+
+-- its hops
+abbrev pub hopsOf : Choice → ℕ
+hopsOf home = 0
+hopsOf (assured mask h) = h
+hopsOf (lent mask h) = h
+hopsOf (detour mask h) = h
+
 -- By the source's own bit H, the masks P and Q, and H: assured or lent by P, else the detour by Q.
 unfoldable pub choose : Bool → ℕ → ℕ → ℕ → Reply Choice
 choose true zero q h = refused 8

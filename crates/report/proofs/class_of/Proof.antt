@@ -27,8 +27,11 @@ returns-5 : tie.Need-returns-5
 unfolding classOf
 returns-5 c =
     let b = c .before .before .args .byte in
-    rw (ne-eqb b 0 (c .before .match .rest .0 .0 .1), lt-leb b 4 (c .if1 .left),
-    le-leb b 253 (omega (arith, c .before .match .rest .0 .1, c .before .match .rest .1, c .before .before .fits .byte)))
+    rw (
+      ne-eqb b 0 (c .before .match .rest .0 .0 .1),
+      lt-leb b 4 (c .if1 .left),
+      le-leb b 253 (omega (arith, c .before .match .rest .0 .1, c .before .match .rest .1, c .before .before .fits .byte)),
+    )
 
 pub class-of-spec : {M : Type 1} → statement M
 class-of-spec = tie.close (tie.spec returns returns-2 returns-3 returns-4 returns-5)

@@ -1,0 +1,66 @@
+-- The laws of Wu's Definition 1: one recurrence gives every bit, and what the table of vectors holds.
+use mathlib.Core.Path.{_≡_, refl, ap, sym, _∙_}
+use mathlib.Core.Bool.{Bool, true, false, not, _&&_, and-true, false≢true}
+use mathlib.Core.List.{List}
+use Prim.Native.Nat.{ℕ, zero, suc, _+_, _-_, _^_, _≤_, _<_}
+use native.Mathlib.Omega.{arith}
+use borrow.Author.Tests.{lt-ltb, le-ltb, le-leb, lt-leb, leb-false, not-true}
+use lib.Dec.{leb, ltb}
+use lib.ListN.{length, getD}
+use Rattle.cube.specs.Bits.{bit, flip}
+use Rattle.cube.specs.Count.{count, any, pack}
+use Rattle.cube.specs.Table.{table}
+use Rattle.cube.proofs.Order.{lt-or-ge}
+use Rattle.cube.proofs.Count.{any-count, count-cong, count-not, count-le, bit-pack}
+use Rattle.cube.proofs.Table.{length-table, getD-table}
+use Rattle.report.specs.Health.{Cube}
+use Rattle.vectors.specs.Safety.{registered, safe, bitsOf, vector, vectors}
+
+-- with no link faulty all n are registered at bit 0, and else at most n−1
+sound-links : (cut : ℕ → Bool) (n : ℕ) → 0 < n → any cut n ≡ leb (count (λ i. not (cut i) && true) n) (n - 1)
+sound-links cut n h = any-count cut n ∙ go (count cut n) (count (λ i. not (cut i) && true) n) refl (sums n)
+  where
+    sums : (m : ℕ) → count cut m + count (λ i. not (cut i) && true) m ≡ m
+    sums m = ap (λ (x : ℕ). count cut m + x) (count-cong (λ i. not (cut i) && true) (λ i. not (cut i)) m (λ i l. and-true (not (cut (suc i))))) ∙ count-not cut m
+
+    go : (c r : ℕ) → count cut n ≡ c → c + r ≡ n → ltb 0 c ≡ leb r (n - 1)
+    go zero r e s = le-ltb 0 0 (omega arith) ∙ sym (lt-leb r (n - 1) (omega arith))
+    go (suc c) r e s = lt-ltb 0 (suc c) (omega arith) ∙ sym (le-leb r (n - 1) (omega arith))
+
+-- with bit 0 taken as 1, every bit from 1 obeys one recurrence
+pub recurrence : (C : Cube) (k a : ℕ) → 0 < C .dim
+    → safe C (suc k) a ≡ (C .works a && not (leb (count (registered C (safe C k) a) (C .dim)) (C .dim - suc k)))
+unfolding safe registered
+recurrence C zero a h = ap (λ (b : Bool). C .works a && not b) (sound-links (C .cut a) (C .dim) h)
+recurrence C (suc k) a h = refl
+
+both-true : (a b : Bool) → (a && b) ≡ true → (a ≡ true) × (b ≡ true)
+both-true true true e = (refl, refl)
+both-true true false e = absurd (false≢true e)
+both-true false b e = absurd (false≢true e)
+
+-- a board with a bit from 1 set is working
+pub safe-works : (C : Cube) (k a : ℕ) → safe C (suc k) a ≡ true → C .works a ≡ true
+unfolding safe
+safe-works C zero a e = both-true (C .works a) _ e .0
+safe-works C (suc k) a e = both-true (C .works a) _ e .0
+
+-- a board with bit k + 1 set has more than n − (k + 1) neighbours registered with bit k
+pub safe-sum : (C : Cube) (k a : ℕ) → 0 < C .dim → safe C (suc k) a ≡ true → C .dim - suc k < count (registered C (safe C k) a) (C .dim)
+safe-sum C k a h e =
+    leb-false _ _ (not-true _ (both-true (C .works a) _ (sym (recurrence C k a h) ∙ e) .1))
+
+-- ---- the table
+
+-- the bits of a vector
+pub bit-vector : (C : Cube) (a k : ℕ) → k < C .dim → bit (vector C a) (suc k) ≡ safe C (suc k) a
+unfolding vector bitsOf
+bit-vector C a k h = bit-pack (bitsOf C a) (C .dim) k h
+
+pub length-vectors : (C : Cube) → length (vectors C) ≡ 2 ^ (C .dim)
+unfolding vectors
+length-vectors C = length-table (vector C) (2 ^ (C .dim))
+
+pub getD-vectors : (C : Cube) (a : ℕ) → a < 2 ^ (C .dim) → getD (vectors C) a 0 ≡ vector C a
+unfolding vectors
+getD-vectors C a h = getD-table (vector C) (2 ^ (C .dim)) a h
