@@ -6,8 +6,9 @@ use lib.Count.{ones}
 use Rattle.cube.specs.Bits.{weight}
 use Rattle.cube.specs.Reply.{Reply, refused, accepted, unless}
 use Rattle.report.specs.Report.{cube}
+use Rattle.vectors.specs.Held.{own}
 use Rattle.routing.specs.Refusals.{routeRefusal}
-use Rattle.routing.specs.Rules.{own, Choice, home, assured, lent, detour, atSource}
+use Rattle.routing.specs.Rules.{Choice, home, assured, lent, detour, atSource}
 use Rattle.routing.specs.declared.Kind.{Kind}
 use Rattle.routing.specs.declared.Kind.the-variants.{Home, Assured, Lent, Detour}
 use Rattle.routing.specs.declared.Decision.{Decision}

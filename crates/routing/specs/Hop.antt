@@ -6,8 +6,9 @@ use lib.Count.{ones}
 use Rattle.cube.specs.Bits.{weight}
 use Rattle.cube.specs.Reply.{Reply, refused, accepted, unless}
 use Rattle.report.specs.Report.{cube}
+use Rattle.vectors.specs.Held.{own}
 use Rattle.routing.specs.Refusals.{routeRefusal}
-use Rattle.routing.specs.Rules.{own, Next, arrived, onward, atNode}
+use Rattle.routing.specs.Rules.{Next, arrived, onward, atNode}
 use Rattle.routing.specs.declared.Step.{Step}
 use Rattle.routing.specs.declared.Step.the-variants.{Arrived, Offered, Refused}
 

@@ -1,24 +1,16 @@
 -- Wu's two routing rules, over the bits that the boards hold.
 use Prim.Native.Nat.{ℕ, zero, suc, _+_}
 use mathlib.Core.Bool.{Bool, true, false, not, _&&_}
-use mathlib.Core.List.{List}
-use lib.ListN.{getD}
 use Rattle.cube.specs.Bits.{bit}
 use Rattle.cube.specs.Count.{pack}
 use Rattle.cube.specs.Reply.{Reply, refused, accepted}
 use Rattle.report.specs.Health.{Cube}
 use Rattle.vectors.specs.Safety.{registered}
 
--- own bit k of node a, read off lent vectors; bit 0 is 1
-unfoldable pub own : List ℕ → ℕ → ℕ → Bool
-unfolding bit
-own vectors zero a = true
-own vectors (suc k) a = bit (getD vectors a 0) (suc k)
-
 -- dimension i is among dims, and a's neighbour along it has its bit, as registered at a
 unfoldable pub borne : Cube → (ℕ → Bool) → ℕ → ℕ → ℕ → Bool
 unfolding bit registered
-borne C bits dims a i = bit dims i && registered C bits a i
+borne C bits dims a i = bit dims i && registered (C .cut) bits a i
 
 -- the mask of those dimensions
 unfoldable pub offer : Cube → (ℕ → Bool) → ℕ → ℕ → ℕ

@@ -29,7 +29,7 @@ sound-links cut n h = any-count cut n ∙ go (count cut n) (count (λ i. not (cu
 
 -- with bit 0 taken as 1, every bit from 1 obeys one recurrence
 pub recurrence : (C : Cube) (k a : ℕ) → 0 < C .dim
-    → safe C (suc k) a ≡ (C .works a && not (leb (count (registered C (safe C k) a) (C .dim)) (C .dim - suc k)))
+    → safe C (suc k) a ≡ (C .works a && not (leb (count (registered (C .cut) (safe C k) a) (C .dim)) (C .dim - suc k)))
 unfolding safe registered
 recurrence C zero a h = ap (λ (b : Bool). C .works a && not b) (sound-links (C .cut a) (C .dim) h)
 recurrence C (suc k) a h = refl
@@ -46,7 +46,7 @@ safe-works C zero a e = both-true (C .works a) _ e .0
 safe-works C (suc k) a e = both-true (C .works a) _ e .0
 
 -- a board with bit k + 1 set has more than n − (k + 1) neighbours registered with bit k
-pub safe-sum : (C : Cube) (k a : ℕ) → 0 < C .dim → safe C (suc k) a ≡ true → C .dim - suc k < count (registered C (safe C k) a) (C .dim)
+pub safe-sum : (C : Cube) (k a : ℕ) → 0 < C .dim → safe C (suc k) a ≡ true → C .dim - suc k < count (registered (C .cut) (safe C k) a) (C .dim)
 safe-sum C k a h e =
     leb-false _ _ (not-true _ (both-true (C .works a) _ (sym (recurrence C k a h) ∙ e) .1))
 

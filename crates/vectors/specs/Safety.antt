@@ -9,9 +9,9 @@ use Rattle.cube.specs.Table.{table}
 use Rattle.report.specs.Health.{Cube}
 
 -- the bit of a's neighbour along dimension i, as registered at a: the neighbour's own, but 0 across a link that counts as faulty
-unfoldable pub registered : Cube → (ℕ → Bool) → ℕ → ℕ → Bool
+unfoldable pub registered : (ℕ → ℕ → Bool) → (ℕ → Bool) → ℕ → ℕ → Bool
 unfolding flip
-registered C bits a i = not (C .cut a i) && bits (flip a i)
+registered cut bits a i = not (cut a i) && bits (flip a i)
 
 -- Bit k of node a. Bit 0 is 1. Bit 1 of a working board is 0 if some link of it counts as faulty, else 1. Bit k from 2 of a working board is 0
 -- if the sum of its neighbours' bits k−1, as registered, is at most n−k, else 1. A board that isn't working has all bits from 1 equal to 0.
@@ -19,7 +19,7 @@ unfoldable pub safe : Cube → ℕ → ℕ → Bool
 unfolding registered any count
 safe C zero a = true
 safe C (suc zero) a = C .works a && not (any (C .cut a) (C .dim))
-safe C (suc (suc k)) a = C .works a && not (leb (count (registered C (safe C (suc k)) a) (C .dim)) (C .dim - suc (suc k)))
+safe C (suc (suc k)) a = C .works a && not (leb (count (registered (C .cut) (safe C (suc k)) a) (C .dim)) (C .dim - suc (suc k)))
 
 -- the bits of node a, by their numbers
 unfoldable pub bitsOf : Cube → ℕ → ℕ → Bool

@@ -1,11 +1,11 @@
--- The laws of the routing rules: what is read off Fill's table is Definition 1.
+-- What is read off Fill's table is Definition 1.
 use mathlib.Core.Path.{_≡_, refl, ap, _∙_}
 use Prim.Native.Nat.{ℕ, zero, suc, _^_, _≤_, _<_}
 use Rattle.cube.specs.Bits.{bit}
 use Rattle.report.specs.Health.{Cube}
 use Rattle.vectors.specs.Safety.{safe, vectors}
+use Rattle.vectors.specs.Held.{own}
 use Rattle.vectors.proofs.Safety.{bit-vector, getD-vectors}
-use Rattle.routing.specs.Rules.{own}
 
 -- over Fill's table the own bits are those of Definition 1
 pub own-safe : (C : Cube) (k a : ℕ) → k ≤ C .dim → a < 2 ^ (C .dim) → own (vectors C) k a ≡ safe C k a
