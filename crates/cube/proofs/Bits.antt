@@ -80,14 +80,16 @@ bit-place-other (suc i) j ne = ⊎-elim above below (lt-or-ge i j)
     above : i < j → bit (2 ^ i) j ≡ false
     above h = bit-high (2 ^ i) (suc i) j (pow-lt {i = i} {j = suc i} (omega arith)) (omega (arith, ne))
 
+-- a power of two as the machine shifts it, in a word of w bits
+pub pow-shift : (i w : ℕ) → i < w → 1 * 2 ^ i % 2 ^ w ≡ 2 ^ i
+pow-shift i w h = ap (λ (x : ℕ). x % 2 ^ w) (one-mul (2 ^ i)) ∙ mod-eq-of-lt (pow-lt {i = i} {j = w} h)
+
 -- the weight of a dimension as the machine shifts it
 pub place-shift : (i : ℕ) → 1 ≤ i → i ≤ 16 → 1 * 2 ^ (i - 1) % 65536 ≡ place i
 unfolding place
 place-shift zero l h = absurd (omega arith)
 place-shift (suc i) l h =
-    ap (λ (x : ℕ). 1 * 2 ^ x % 65536) (let e : suc i - 1 ≡ i = omega arith in e)
-    ∙ ap (λ (x : ℕ). x % 65536) (one-mul (2 ^ i))
-    ∙ mod-eq-of-lt (pow-lt {i = i} {j = 16} (omega arith))
+    ap (λ (x : ℕ). 1 * 2 ^ x % 65536) (let e : suc i - 1 ≡ i = omega arith in e) ∙ pow-shift i 16 h
 
 -- crossing changes its own bit
 pub bit-flip : (a i : ℕ) → bit (flip a (suc i)) (suc i) ≡ not (bit a (suc i))
@@ -112,3 +114,14 @@ pub flip-lt : (n a i : ℕ) → a < 2 ^ n → i ≤ n → flip a i < 2 ^ n
 unfolding flip place
 flip-lt n a zero ha hi = xor-lt n a 0 ha (pow-pos n)
 flip-lt n a (suc i) ha hi = xor-lt n a (2 ^ i) ha (pow-lt {i = i} {j = n} hi)
+
+-- crossing as the machine does it
+pub flip-shift : (a i : ℕ) → 1 ≤ i → i ≤ 16 → bitXor a (1 * 2 ^ (i - 1) % 65536) ≡ flip a i
+unfolding flip
+flip-shift a i l h = ap (bitXor a) (place-shift i l h)
+
+-- a bit as the machine tests it
+pub bit-shift : (x i : ℕ) → 1 ≤ i → eqb (x / 2 ^ (i - 1) % 2) 1 ≡ bit x i
+unfolding bit
+bit-shift x zero l = absurd (omega arith)
+bit-shift x (suc i) l = ap (λ (j : ℕ). eqb (x / 2 ^ j % 2) 1) (let e : suc i - 1 ≡ i = omega arith in e)

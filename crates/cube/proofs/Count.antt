@@ -3,18 +3,18 @@ use mathlib.Core.Path.{_≡_, refl, ap, ap₂, sym, _∙_}
 use mathlib.Core.Bool.{Bool, true, false, not, xor, _||_, or-true, or-false, true≢false}
 use mathlib.Core.Logic.{_⊎_, inl, inr, ⊎-elim}
 use Prim.Native.Nat.{ℕ, zero, suc, _+_, _*_, _-_, _/_, _%_, _^_, _≤_, _<_}
-use native.Mathlib.Nat.{mod-eq-of-lt, mod-one, mod-lt, add-zero, eq-zero-or-pos, pow-succ'}
-use native.Mathlib.Numerals.{one-add}
+use native.Mathlib.Nat.{mod-eq-of-lt, mod-one, mod-lt, lt-of-le-of-lt, add-zero, eq-zero-or-pos, pow-succ'}
+use native.Mathlib.Numerals.{add-one, one-add}
 use native.Mathlib.Omega.{arith}
 use borrow.Author.Tests.{ltb-true, ltb-false, lt-ltb, le-ltb}
 use lib.Bits.{bitXor, xor-lt}
 use lib.Dec.{eqb, ltb}
 use lib.Count.{ones, ones-cat}
-use lib.Pow.{pow-pos, high, low, mod-pow-add}
+use lib.Pow.{pow-pos, pow-lt, high, low, mod-pow-add}
 use Rattle.cube.specs.Bits.{bit, place, flip, weight}
 use Rattle.cube.specs.Count.{one, pack, count, any}
 use Rattle.cube.proofs.Order.{lt-or-ge, eq-or-ne}
-use Rattle.cube.proofs.Bits.{bit-zero, bit-xor, bit-mod, bit-flip, bit-flip-other, flip-lt}
+use Rattle.cube.proofs.Bits.{bit-shift, bit-zero, bit-xor, bit-mod, bit-flip, bit-flip-other, flip-lt}
 
 pub one-le : (b : Bool) → one b ≤ 1
 one-le true = omega arith
@@ -25,6 +25,10 @@ one-eqb zero h = refl
 one-eqb (suc zero) h = refl
 one-eqb (suc (suc d)) h = absurd (omega arith)
 
+-- a bit as a number, as the machine takes it
+pub one-bit : (x i : ℕ) → 1 ≤ i → x / 2 ^ (i - 1) % 2 ≡ one (bit x i)
+one-bit x i l = sym (one-eqb (x / 2 ^ (i - 1) % 2) (omega arith)) ∙ ap one (bit-shift x i l)
+
 eqb-one : (b : Bool) → eqb (one b % 2) 1 ≡ b
 eqb-one true = refl
 eqb-one false = refl
@@ -32,6 +36,10 @@ eqb-one false = refl
 one-times : (b : Bool) (x : ℕ) → one b * x ≤ x
 one-times true x = omega arith
 one-times false x = omega arith
+
+-- a bit as the machine shifts it to place k, in a word of w bits
+pub one-shift : (b : Bool) (k w : ℕ) → k < w → one b * 2 ^ k % 2 ^ w ≡ one b * 2 ^ k
+one-shift b k w h = mod-eq-of-lt (lt-of-le-of-lt (one-times b (2 ^ k)) (pow-lt {i = k} {j = w} h))
 
 -- ---- pack
 
@@ -44,6 +52,11 @@ pub pack-cong : (p q : ℕ → Bool) (n : ℕ) → ((i : ℕ) → i < n → p (s
 unfolding pack
 pack-cong p q zero h = refl
 pack-cong p q (suc n) h = ap₂ (λ (x : ℕ) (b : Bool). x + one b * 2 ^ n) (pack-cong p q n (λ i l. h i (omega arith))) (h n (omega arith))
+
+-- one dimension more, as a loop packs it
+pub pack-step : (p : ℕ → Bool) (i : ℕ) → pack p (i + 1) ≡ pack p i + one (p (i + 1)) * 2 ^ i
+unfolding pack
+pack-step p i = rw add-one
 
 -- the bits of a packed word
 pub bit-pack : (p : ℕ → Bool) (n i : ℕ) → i < n → bit (pack p n) (suc i) ≡ p (suc i)
@@ -113,6 +126,11 @@ pub count-le : (p : ℕ → Bool) (n : ℕ) → count p n ≤ n
 unfolding count
 count-le p zero = omega arith
 count-le p (suc n) = omega (arith, count-le p n, one-le (p (suc n)))
+
+-- one dimension more, as a loop counts it
+pub count-step : (p : ℕ → Bool) (i : ℕ) → count p (i + 1) ≡ count p i + one (p (i + 1))
+unfolding count
+count-step p i = rw add-one
 
 one-not : (b : Bool) → one b + one (not b) ≡ 1
 one-not true = refl

@@ -20,3 +20,22 @@ pub unless-accepted : {A : Type 0} (m : ℕ) (r : Reply A) (x : A) → unless m 
 unfolding unless
 unless-accepted zero r x e = (refl, e)
 unless-accepted (suc m) r x e = absurd (let z : _≡_ {A = ℕ} 0 1 = cc in omega arith)
+
+-- a number other than 0 is handed out
+pub unless-some : {A : Type 0} (m : ℕ) (r : Reply A) → (m ≡ 0 → ⊥) → unless m r ≡ refused m
+unfolding unless
+unless-some zero r nz = absurd (nz refl)
+unless-some (suc m) r nz = refl
+
+pub unless-none : {A : Type 0} (m : ℕ) (r : Reply A) → m ≡ 0 → unless m r ≡ r
+unfolding unless
+unless-none m r e = rw e
+
+pub kept-some : (m : ℕ) (new old : List ℕ) → (m ≡ 0 → ⊥) → kept m new old ≡ old
+unfolding kept
+kept-some zero new old nz = absurd (nz refl)
+kept-some (suc m) new old nz = refl
+
+pub kept-none : (m : ℕ) (new old : List ℕ) → m ≡ 0 → kept m new old ≡ new
+unfolding kept
+kept-none m new old e = rw e

@@ -1,6 +1,11 @@
-// What a cabinet report means: the class of a status byte.
+// What a cabinet report means: the class of a status byte, which boards work, which links count as faulty.
+use cube::Node;
 ghost use mathlib.Core.Path.{_≡_};
-ghost use Rattle.report.specs.Class.{classOf};
+ghost use Prim.Native.Nat.{min, _^_};
+ghost use Rattle.report.specs.Class.{classOf, isWorking};
+ghost use mathlib.Core.Bool.{_&&_};
+ghost use lib.Dec.{eqb};
+ghost use Rattle.report.specs.Report.{works, cut, narrow, dimension, within};
 
 // The class of a board by its status byte.
 pub enum Class {
@@ -22,4 +27,128 @@ pub fn class_of(byte: u8) -> Class
         254 => Class::Down,
         255 => Class::Empty,
     }
+}
+
+impl Class {
+    // Only working boards are nonfaulty.
+    pub fn is_working(self) -> bool
+        ensures { λ r. ⌜ r ≡ isWorking self ⌝ }
+    {
+        match self {
+            Class::Silent => false,
+            Class::Working => true,
+            Class::Late => false,
+            Class::Down => false,
+            Class::Empty => false,
+        }
+    }
+}
+
+// Whether the board of node a is working; a node past the end was never heard.
+pub fn works(status: &[u8], a: Node) -> bool
+    ensures { λ r. ⌜ r ≡ works (now (status .entry)) (a .0) ⌝ }
+{
+    let at = a.0 as usize;
+    if status.len() <= at {
+        return false;
+    }
+    class_of(status[at]).is_working()
+}
+
+// The lower-numbered end of a link.
+fn lower(a: u16, b: u16) -> u16
+    ensures { λ r. ⌜ r ≡ min a b ⌝ }
+{
+    if a < b { a } else { b }
+}
+
+// Whether the link of a along dimension i counts as faulty: the word of its lower-numbered end marks it.
+pub fn faulty(links: &[u16], a: Node, i: u32) -> bool
+    ensures { λ r. ⌜ r ≡ cut (now (links .entry)) (a .0) i ⌝ }
+{
+    if i < 1 {
+        return false;
+    }
+    if 16 < i {
+        return false;
+    }
+    let bit: u16 = 1 << (i - 1);
+    let end = lower(a.0, a.0 ^ bit) as usize;
+    if links.len() <= end {
+        return false;
+    }
+    (links[end] >> (i - 1)) % 2 == 1
+}
+
+// Whether n is from 1 to 10.
+pub fn dimension(n: u32) -> bool
+    ensures { λ r. ⌜ r ≡ dimension n ⌝ }
+{
+    if n < 1 {
+        return false;
+    }
+    n <= 10
+}
+
+// Whether a slice of this length has one entry for each node.
+pub fn sized(n: u32, length: usize) -> bool
+    ensures { λ r. ⌜ r ≡ eqb length (2 ^ n) ⌝ }
+{
+    if 63 < n {
+        return false;
+    }
+    let boards: usize = 1 << n;
+    length == boards
+}
+
+// Whether three slices of these lengths have one entry for each node.
+pub fn all_sized(n: u32, a: usize, b: usize, c: usize) -> bool
+    ensures { λ r. ⌜ r ≡ (eqb a (2 ^ n) && (eqb b (2 ^ n) && eqb c (2 ^ n))) ⌝ }
+{
+    if !sized(n, a) {
+        return false;
+    }
+    if !sized(n, b) {
+        return false;
+    }
+    sized(n, c)
+}
+
+// Whether two numbers are below 2^n.
+pub fn both_within(n: u32, a: u16, b: u16) -> bool
+    ensures { λ r. ⌜ r ≡ (within n a && within n b) ⌝ }
+{
+    if !within(n, a) {
+        return false;
+    }
+    within(n, b)
+}
+
+// Whether a number is below 2^n.
+pub fn within(n: u32, a: u16) -> bool
+    ensures { λ r. ⌜ r ≡ within n a ⌝ }
+{
+    (a as u32) < limit(n)
+}
+
+// 2^n, or 2^16 where that is less.
+fn limit(n: u32) -> u32
+    ensures { λ r. ⌜ r ≡ 2 ^ min n 16 ⌝ }
+{
+    if n < 16 { 1 << n } else { 65536 }
+}
+
+// Whether no link word has a bit at weight 2^n or above.
+pub fn narrow(n: u32, links: &[u16]) -> bool
+    ensures { λ r. ⌜ r ≡ narrow n (now (links .entry)) ⌝ }
+{
+    let top = limit(n);
+    let mut i: usize = 0;
+    while i < links.len() {
+        if top <= links[i] as u32 {
+            return false;
+        }
+        i += 1;
+    }
+    true
 }

@@ -1,2 +1,3 @@
 pub mod Safety
 pub mod Held
+pub mod Rounds

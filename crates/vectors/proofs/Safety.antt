@@ -14,7 +14,7 @@ use Rattle.cube.proofs.Order.{lt-or-ge}
 use Rattle.cube.proofs.Count.{any-count, count-cong, count-not, count-le, bit-pack}
 use Rattle.cube.proofs.Table.{length-table, getD-table}
 use Rattle.report.specs.Health.{Cube}
-use Rattle.vectors.specs.Safety.{registered, safe, bitsOf, vector, vectors}
+use Rattle.vectors.specs.Safety.{registered, supported, safe, bitsOf, vector, vectors}
 
 -- with no link faulty all n are registered at bit 0, and else at most n−1
 sound-links : (cut : ℕ → Bool) (n : ℕ) → 0 < n → any cut n ≡ leb (count (λ i. not (cut i) && true) n) (n - 1)
@@ -29,8 +29,8 @@ sound-links cut n h = any-count cut n ∙ go (count cut n) (count (λ i. not (cu
 
 -- with bit 0 taken as 1, every bit from 1 obeys one recurrence
 pub recurrence : (C : Cube) (k a : ℕ) → 0 < C .dim
-    → safe C (suc k) a ≡ (C .works a && not (leb (count (registered (C .cut) (safe C k) a) (C .dim)) (C .dim - suc k)))
-unfolding safe registered
+    → safe C (suc k) a ≡ (C .works a && supported C (safe C k) (suc k) a)
+unfolding safe supported registered
 recurrence C zero a h = ap (λ (b : Bool). C .works a && not b) (sound-links (C .cut a) (C .dim) h)
 recurrence C (suc k) a h = refl
 
@@ -38,6 +38,24 @@ both-true : (a b : Bool) → (a && b) ≡ true → (a ≡ true) × (b ≡ true)
 both-true true true e = (refl, refl)
 both-true true false e = absurd (false≢true e)
 both-true false b e = absurd (false≢true e)
+
+-- bits that agree at a's neighbours support the same
+pub supported-cong : (C : Cube) (p q : ℕ → Bool) (k a : ℕ) → ((i : ℕ) → i < C .dim → p (flip a (suc i)) ≡ q (flip a (suc i)))
+    → supported C p k a ≡ supported C q k a
+unfolding supported registered
+supported-cong C p q k a h =
+    ap (λ (x : ℕ). not (leb x (C .dim - k)))
+    (count-cong (registered (C .cut) p a) (registered (C .cut) q a) (C .dim) (λ i l. ap (λ (b : Bool). not (C .cut a (suc i)) && b) (h i l)))
+
+-- at most n−k neighbours registered with the bit are too few
+pub too-few : (C : Cube) (bits : ℕ → Bool) (k a : ℕ) → count (registered (C .cut) bits a) (C .dim) ≤ C .dim - k → supported C bits k a ≡ false
+unfolding supported
+too-few C bits k a h = ap not (le-leb _ _ h)
+
+-- and more than that are enough
+pub enough : (C : Cube) (bits : ℕ → Bool) (k a : ℕ) → C .dim - k < count (registered (C .cut) bits a) (C .dim) → supported C bits k a ≡ true
+unfolding supported
+enough C bits k a h = ap not (lt-leb _ _ h)
 
 -- a board with a bit from 1 set is working
 pub safe-works : (C : Cube) (k a : ℕ) → safe C (suc k) a ≡ true → C .works a ≡ true
@@ -47,6 +65,7 @@ safe-works C (suc k) a e = both-true (C .works a) _ e .0
 
 -- a board with bit k + 1 set has more than n − (k + 1) neighbours registered with bit k
 pub safe-sum : (C : Cube) (k a : ℕ) → 0 < C .dim → safe C (suc k) a ≡ true → C .dim - suc k < count (registered (C .cut) (safe C k) a) (C .dim)
+unfolding supported
 safe-sum C k a h e =
     leb-false _ _ (not-true _ (both-true (C .works a) _ (sym (recurrence C k a h) ∙ e) .1))
 

@@ -13,13 +13,18 @@ unfoldable pub registered : (ℕ → ℕ → Bool) → (ℕ → Bool) → ℕ �
 unfolding flip
 registered cut bits a i = not (cut a i) && bits (flip a i)
 
+-- a bit by the neighbours' bits k−1: 0 if their sum, as registered at a, is at most n−k, else 1
+unfoldable pub supported : Cube → (ℕ → Bool) → ℕ → ℕ → Bool
+unfolding registered count
+supported C bits k a = not (leb (count (registered (C .cut) bits a) (C .dim)) (C .dim - k))
+
 -- Bit k of node a. Bit 0 is 1. Bit 1 of a working board is 0 if some link of it counts as faulty, else 1. Bit k from 2 of a working board is 0
 -- if the sum of its neighbours' bits k−1, as registered, is at most n−k, else 1. A board that isn't working has all bits from 1 equal to 0.
 unfoldable pub safe : Cube → ℕ → ℕ → Bool
-unfolding registered any count
+unfolding supported any
 safe C zero a = true
 safe C (suc zero) a = C .works a && not (any (C .cut a) (C .dim))
-safe C (suc (suc k)) a = C .works a && not (leb (count (registered (C .cut) (safe C (suc k)) a) (C .dim)) (C .dim - suc (suc k)))
+safe C (suc (suc k)) a = C .works a && supported C (safe C (suc k)) (suc (suc k)) a
 
 -- the bits of node a, by their numbers
 unfoldable pub bitsOf : Cube → ℕ → ℕ → Bool

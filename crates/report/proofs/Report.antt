@@ -1,0 +1,65 @@
+-- The laws of what a report says of its boards and links.
+use mathlib.Core.Path.{_≡_, refl, ap, sym, _∙_}
+use mathlib.Core.Bool.{Bool, true, false, _&&_}
+use mathlib.Core.List.{List, [], _∷_}
+use mathlib.Core.Logic.{⊎-elim}
+use Prim.Native.Nat.{ℕ, zero, suc, min, _+_, _^_, _≤_, _<_}
+use native.Mathlib.Nat.{lt-of-lt-of-le}
+use native.Mathlib.Numerals.{add-one}
+use native.Mathlib.Omega.{arith}
+use borrow.Author.Tests.{lt-ltb}
+use lib.Dec.{ltb}
+use lib.Pow.{pow-mono}
+use lib.Seq.{drop-cons}
+use lib.ListN.{length, getD, drop, drop-of-length-le, List·getD-eq-default}
+use Rattle.cube.specs.Bits.{bit, flip}
+use Rattle.cube.proofs.Bits.{bit-zero, bit-high}
+use Rattle.cube.proofs.Order.{lt-or-ge}
+use Rattle.report.specs.Class.{classOf, isWorking}
+use Rattle.report.specs.Report.{works, cut, narrow}
+
+-- a node past the end is not working
+pub works-past : (status : List ℕ) (a : ℕ) → length status ≤ a → works status a ≡ false
+unfolding works classOf
+works-past status a h = ap (λ (b : ℕ). isWorking (classOf b)) (List·getD-eq-default status 0 h)
+
+-- there is no link along dimension 0
+pub cut-zero : (links : List ℕ) (a i : ℕ) → i < 1 → cut links a i ≡ false
+unfolding cut bit
+cut-zero links a zero h = refl
+cut-zero links a (suc i) h = absurd (omega arith)
+
+-- a word of 16 bits marks no link above dimension 16
+pub cut-wide : (links : List ℕ) (a i : ℕ) → ((b : ℕ) → getD links b 0 < 2 ^ 16) → 16 < i → cut links a i ≡ false
+unfolding cut
+cut-wide links a i h l = bit-high (getD links (min a (flip a i)) 0) 16 i (h (min a (flip a i))) l
+
+-- a word past the end marks no link
+pub cut-past : (links : List ℕ) (a i : ℕ) → length links ≤ min a (flip a i) → cut links a i ≡ false
+unfolding cut
+cut-past links a i h = ap (λ (w : ℕ). bit w i) (List·getD-eq-default links 0 h) ∙ bit-zero i
+
+-- ---- link words
+
+-- the words from i on are narrow if the one at i is and those after it are
+pub narrow-step : (n : ℕ) (links : List ℕ) (i : ℕ) → i < length links
+    → narrow n (drop i links) ≡ (ltb (getD links i 0) (2 ^ n) && narrow n (drop (i + 1) links))
+unfolding narrow
+narrow-step n links i h = ap (narrow n) (drop-cons links i 0 h ∙ ap (λ (j : ℕ). getD links i 0 ∷ drop j links) (sym (add-one i)))
+
+pub narrow-end : (n : ℕ) (links : List ℕ) (i : ℕ) → length links ≤ i → narrow n (drop i links) ≡ true
+unfolding narrow
+narrow-end n links i h = ap (narrow n) (drop-of-length-le links h)
+
+-- a word of 16 bits is below 2^n exactly if it is below the lesser of 2^n and 2^16
+pub word-limit : (n w : ℕ) → w < 2 ^ 16 → ltb w (2 ^ n) ≡ ltb w (2 ^ min n 16)
+word-limit n w h = ⊎-elim small large (lt-or-ge n 16)
+  where
+    small : n < 16 → ltb w (2 ^ n) ≡ ltb w (2 ^ min n 16)
+    small l = ap (λ (k : ℕ). ltb w (2 ^ k)) (let e : n ≡ min n 16 = omega arith in e)
+
+    large : 16 ≤ n → ltb w (2 ^ n) ≡ ltb w (2 ^ min n 16)
+    large l =
+        lt-ltb w (2 ^ n) (lt-of-lt-of-le h (pow-mono {i = 16} {j = n} l))
+        ∙ sym (lt-ltb w (2 ^ 16) h)
+        ∙ ap (λ (k : ℕ). ltb w (2 ^ k)) (let e : 16 ≡ min n 16 = omega arith in e)

@@ -1,0 +1,56 @@
+-- `vectors::next_bit` meets its contract: its tests are those of the recurrence.
+use mathlib.Core.Path.{ap, ap₂, sym, _∙_}
+use mathlib.Core.Bool.{Bool, _&&_}
+use Prim.Native.Nat.{suc}
+use native.Mathlib.Omega.{arith}
+use borrow.Author.Needs.{needs}
+use denote.Ref.{now}
+use Rattle.cube.specs.Count.{one}
+use Rattle.report.specs.Report.{cube}
+use Rattle.vectors.specs.Safety.{supported}
+use Rattle.vectors.specs.Held.{own}
+use Rattle.vectors.proofs.Safety.{too-few, enough}
+use Rattle.vectors.proofs.next_bit.Statement.{statement}
+use Rattle.vectors.proofs.next_bit.Tie as tie
+
+works-requires : tie.Need-works-requires
+works-requires c κs = search needs
+
+support-requires : tie.Need-support-requires
+support-requires c κs = search needs
+
+add-if2 : tie.Need-add-if2
+add-if2 c = search needs
+
+sub-if2 : tie.Need-sub-if2
+sub-if2 c = search needs
+
+returns : tie.Need-returns
+unfolding cube
+returns c =
+    let a = c .before .before .before .before .before .before .before .args in
+    sym
+    (ap one
+    (ap₂ _&&_ (sym (c .before .before .before .works .ensures) ∙ c .before .before .if1 .taken)
+    (too-few (cube (a .n) (now (a .status)) (now (a .links))) (own (now (a .vectors)) (a .k)) (suc (a .k)) (a .a .0) (omega (arith, c .before .support .ensures, c .if2 .taken)))))
+
+returns-2 : tie.Need-returns-2
+unfolding cube
+returns-2 c =
+    let a = c .before .before .before .before .before .before .before .args in
+    sym
+    (ap one
+    (ap₂ _&&_ (sym (c .before .before .before .works .ensures) ∙ c .before .before .if1 .taken)
+    (enough (cube (a .n) (now (a .status)) (now (a .links))) (own (now (a .vectors)) (a .k)) (suc (a .k)) (a .a .0) (omega (arith, c .before .support .ensures, c .if2 .left)))))
+
+returns-3 : tie.Need-returns-3
+returns-3 c =
+    let a = c .before .before .before .before .before .args in
+    sym
+    (ap (λ (t : Bool). one (t && supported (cube (a .n) (now (a .status)) (now (a .links))) (own (now (a .vectors)) (a .k)) (suc (a .k)) (a .a .0)))
+    (sym (c .before .works .ensures) ∙ c .if1 .left))
+
+pub next-bit-spec : {M : Type 1} → statement M
+next-bit-spec =
+    tie.close
+    (tie.spec works-requires support-requires add-if2 sub-if2 returns returns-2 returns-3)
