@@ -1,6 +1,6 @@
 -- The laws of `pack`, `count`, `any` and `weight`. "For i from 1 to n" is said of `suc i` with i below n.
 use mathlib.Core.Path.{_≡_, refl, ap, ap₂, sym, _∙_}
-use mathlib.Core.Bool.{Bool, true, false, not, xor, _||_, or-true, or-false, true≢false}
+use mathlib.Core.Bool.{Bool, true, false, not, xor, _||_, or-true, or-false, true≢false, false≢true}
 use mathlib.Core.Logic.{_⊎_, inl, inr, ⊎-elim}
 use Prim.Native.Nat.{ℕ, zero, suc, _+_, _*_, _-_, _/_, _%_, _^_, _≤_, _<_}
 use native.Mathlib.Nat.{mod-eq-of-lt, mod-one, mod-lt, lt-of-le-of-lt, add-zero, eq-zero-or-pos, pow-succ'}
@@ -14,7 +14,7 @@ use lib.Pow.{pow-pos, pow-lt, high, low, mod-pow-add}
 use Rattle.cube.specs.Bits.{bit, place, flip, weight}
 use Rattle.cube.specs.Count.{one, pack, count, any}
 use Rattle.cube.proofs.Order.{lt-or-ge, eq-or-ne}
-use Rattle.cube.proofs.Bits.{bit-shift, bit-zero, bit-xor, bit-mod, bit-flip, bit-flip-other, flip-lt}
+use Rattle.cube.proofs.Bits.{bit-shift, bit-zero, bit-xor, bit-mod, bit-high, bit-flip, bit-flip-other, flip-lt}
 
 pub one-le : (b : Bool) → one b ≤ 1
 one-le true = omega arith
@@ -114,6 +114,32 @@ pack-none p n e i h = sym (bit-pack p n i h) ∙ ap (λ (x : ℕ). bit x (suc i)
 
 pub pack-some : (p : ℕ → Bool) (n i : ℕ) → i < n → p (suc i) ≡ true → 0 < pack p n
 pack-some p n i h e = ⊎-elim (λ (z : pack p n ≡ 0). absurd (true≢false (sym e ∙ pack-none p n z i h))) (λ l. l) (eq-zero-or-pos (pack p n))
+
+-- what holds of each i from 1 to n with p holds of each bit that is set
+pub pack-each : (p : ℕ → Bool) (n : ℕ) (P : ℕ → Type 0) → ((j : ℕ) → j < n → p (suc j) ≡ true → P (suc j))
+    → (i : ℕ) → bit (pack p n) i ≡ true → P i
+unfolding bit
+pack-each p n P each zero e = absurd (false≢true e)
+pack-each p n P each (suc j) e =
+    ⊎-elim (λ (l : j < n). each j l (sym (bit-pack p n j l) ∙ e))
+    (λ (l : n ≤ j). absurd (false≢true (sym (bit-high (pack p n) n (suc j) (pack-lt p n) (omega arith)) ∙ e)))
+    (lt-or-ge j n)
+
+-- a packed word that is not 0 has a bit set
+pub pack-find : (p : ℕ → Bool) (n : ℕ) → 0 < pack p n → (i : ℕ) × (i < n) × (p (suc i) ≡ true)
+unfolding pack
+pack-find p zero h = absurd (omega arith)
+pack-find p (suc n) h = go (p (suc n)) refl (pack-find p n)
+  where
+    Found : ℕ → Type 0
+    Found m = (i : ℕ) × (i < m) × (p (suc i) ≡ true)
+
+    more : Found n → Found (suc n)
+    more (i, l, e) = (i, omega arith, e)
+
+    go : (b : Bool) → p (suc n) ≡ b → (0 < pack p n → Found n) → Found (suc n)
+    go true e rest = (n, omega arith, e)
+    go false e rest = more (rest (omega (arith, ap (λ (b : Bool). one b * 2 ^ n) e)))
 
 -- ---- count
 
@@ -257,6 +283,19 @@ cancel false true true = refl
 cancel false true false = refl
 cancel false false true = refl
 cancel false false false = refl
+
+again : (a x : Bool) → xor a (xor a x) ≡ x
+unfolding xor
+again true true = refl
+again true false = refl
+again false true = refl
+again false false = refl
+
+-- a node with its relative address names the destination, and with the destination its relative address
+pub xor-cancel : (n a x : ℕ) → a < 2 ^ n → x < 2 ^ n → bitXor a (bitXor a x) ≡ x
+xor-cancel n a x ha hx =
+    bit-ext (bitXor a (bitXor a x)) x n (xor-lt n a (bitXor a x) ha (xor-lt n a x ha hx)) hx
+    (λ j l. bit-xor a (bitXor a x) (suc j) ∙ ap (xor (bit a (suc j))) (bit-xor a x (suc j)) ∙ again (bit a (suc j)) (bit x (suc j)))
 
 -- a node and its relative address, both with one dimension crossed, name the same destination
 pub xor-crossed : (n a r i : ℕ) → a < 2 ^ n → r < 2 ^ n → i ≤ n → bitXor (flip a i) (flip r i) ≡ bitXor a r

@@ -1,19 +1,21 @@
--- The laws of replies and of lists of refusals.
-use mathlib.Core.Path.{_≡_, refl, ap, sym, _∙_}
-use mathlib.Core.Bool.{Bool, true, false, not, cond, _&&_}
-use mathlib.Core.List.{List, [], _∷_}
-use Prim.Native.Nat.{ℕ, zero, suc}
+-- The laws of replies and of lists of refusals. A list of refusals is a chain of `cond`.
+use mathlib.Core.Path.{_≡_, refl}
+use mathlib.Core.Bool.{Bool, true, false, cond}
+use mathlib.Core.Logic.{_⊎_, inl, inr}
+use mathlib.Core.List.{List}
+use Prim.Native.Nat.{ℕ, zero, suc, _≤_}
 use native.Mathlib.Omega.{arith}
-use Rattle.cube.specs.Reply.{Reply, refused, accepted, refusal, unless, kept}
+use Rattle.cube.specs.Reply.{Reply, refused, accepted, unless, kept}
 
--- Where no test with a number of its own holds, the first test doesn't, and no later one does.
-pub passed : (t : Bool × ℕ) (ts : List (Bool × ℕ)) → (t .1 ≡ 0 → ⊥) → refusal (t ∷ ts) ≡ 0 → (t .0 ≡ false) × (refusal ts ≡ 0)
-unfolding refusal
-passed t ts nz e = go (t .0) refl
-  where
-    go : (b : Bool) → t .0 ≡ b → (t .0 ≡ false) × (refusal ts ≡ 0)
-    go true w = absurd (nz (sym (ap (λ (x : Bool). cond x (t .1) (refusal ts)) w) ∙ e))
-    go false w = (w, sym (ap (λ (x : Bool). cond x (t .1) (refusal ts)) w) ∙ e)
+-- where nothing refuses, the first test doesn't hold, and no later one does
+pub passed : (t : Bool) (m later : ℕ) → cond t (suc m) later ≡ 0 → (t ≡ false) × (later ≡ 0)
+passed true m later e = absurd (omega arith)
+passed false m later e = (refl, e)
+
+-- a refusal is at most the greatest number of its list
+pub refusal-le : (t : Bool) (m later top : ℕ) → m ≤ top → later ≤ top → cond t m later ≤ top
+refusal-le true m later top h hs = h
+refusal-le false m later top h hs = hs
 
 -- an acceptance means that there was no refusal, and that it is the rule's
 pub unless-accepted : {A : Type 0} (m : ℕ) (r : Reply A) (x : A) → unless m r ≡ accepted x → (m ≡ 0) × (r ≡ accepted x)
@@ -39,3 +41,9 @@ kept-some (suc m) new old nz = refl
 pub kept-none : (m : ℕ) (new old : List ℕ) → m ≡ 0 → kept m new old ≡ new
 unfolding kept
 kept-none m new old e = rw e
+
+-- a refusal is one of the list's, or the rule's
+pub unless-refused : {A : Type 0} (m : ℕ) (r : Reply A) (k : ℕ) → unless m r ≡ refused k → (m ≡ k) ⊎ ((m ≡ 0) × (r ≡ refused k))
+unfolding unless
+unless-refused zero r k e = inr (refl, e)
+unless-refused (suc m) r k e = inl (cc)

@@ -1,14 +1,14 @@
 -- The laws of what a report says of its boards and links.
 use mathlib.Core.Path.{_≡_, refl, ap, sym, _∙_}
-use mathlib.Core.Bool.{Bool, true, false, _&&_}
+use mathlib.Core.Bool.{Bool, true, false, _&&_, and-eq-true-iff}
 use mathlib.Core.List.{List, [], _∷_}
 use mathlib.Core.Logic.{⊎-elim}
 use Prim.Native.Nat.{ℕ, zero, suc, min, _+_, _^_, _≤_, _<_}
 use native.Mathlib.Nat.{lt-of-lt-of-le}
 use native.Mathlib.Numerals.{add-one}
 use native.Mathlib.Omega.{arith}
-use borrow.Author.Tests.{lt-ltb}
-use lib.Dec.{ltb}
+use borrow.Author.Tests.{lt-ltb, leb-true}
+use lib.Dec.{leb, ltb}
 use lib.Pow.{pow-mono}
 use lib.Seq.{drop-cons}
 use lib.ListN.{length, getD, drop, drop-of-length-le, List·getD-eq-default}
@@ -16,7 +16,7 @@ use Rattle.cube.specs.Bits.{bit, flip}
 use Rattle.cube.proofs.Bits.{bit-zero, bit-high}
 use Rattle.cube.proofs.Order.{lt-or-ge}
 use Rattle.report.specs.Class.{classOf, isWorking}
-use Rattle.report.specs.Report.{works, cut, narrow}
+use Rattle.report.specs.Report.{works, cut, narrow, dimension}
 
 -- a node past the end is not working
 pub works-past : (status : List ℕ) (a : ℕ) → length status ≤ a → works status a ≡ false
@@ -63,3 +63,9 @@ word-limit n w h = ⊎-elim small large (lt-or-ge n 16)
         lt-ltb w (2 ^ n) (lt-of-lt-of-le h (pow-mono {i = 16} {j = n} l))
         ∙ sym (lt-ltb w (2 ^ 16) h)
         ∙ ap (λ (k : ℕ). ltb w (2 ^ k)) (let e : 16 ≡ min n 16 = omega arith in e)
+
+-- ---- acceptable reports
+
+pub dimension-range : (n : ℕ) → dimension n ≡ true → (1 ≤ n) × (n ≤ 10)
+unfolding dimension
+dimension-range n e = let t = and-eq-true-iff (leb 1 n) (leb n 10) .0 e in (leb-true 1 n (t .0), leb-true n 10 (t .1))

@@ -1,3 +1,4 @@
 pub mod Safety
 pub mod Held
 pub mod Rounds
+pub mod Accepted

@@ -1,17 +1,14 @@
 -- The laws of Wu's Definition 1: one recurrence gives every bit, and what the table of vectors holds.
 use mathlib.Core.Path.{_≡_, refl, ap, sym, _∙_}
 use mathlib.Core.Bool.{Bool, true, false, not, _&&_, and-true, false≢true}
-use mathlib.Core.List.{List}
 use Prim.Native.Nat.{ℕ, zero, suc, _+_, _-_, _^_, _≤_, _<_}
 use native.Mathlib.Omega.{arith}
 use borrow.Author.Tests.{lt-ltb, le-ltb, le-leb, lt-leb, leb-false, not-true}
 use lib.Dec.{leb, ltb}
 use lib.ListN.{length, getD}
-use Rattle.cube.specs.Bits.{bit, flip}
-use Rattle.cube.specs.Count.{count, any, pack}
-use Rattle.cube.specs.Table.{table}
-use Rattle.cube.proofs.Order.{lt-or-ge}
-use Rattle.cube.proofs.Count.{any-count, count-cong, count-not, count-le, bit-pack}
+use Rattle.cube.specs.Bits.{bit, flip, weight}
+use Rattle.cube.specs.Count.{count, any}
+use Rattle.cube.proofs.Count.{any-count, count-cong, count-not, bit-pack, both, weight-below}
 use Rattle.cube.proofs.Table.{length-table, getD-table}
 use Rattle.report.specs.Health.{Cube}
 use Rattle.vectors.specs.Safety.{registered, supported, safe, bitsOf, vector, vectors}
@@ -68,6 +65,12 @@ pub safe-sum : (C : Cube) (k a : ℕ) → 0 < C .dim → safe C (suc k) a ≡ tr
 unfolding supported
 safe-sum C k a h e =
     leb-false _ _ (not-true _ (both-true (C .works a) _ (sym (recurrence C k a h) ∙ e) .1))
+
+-- a board with its own bit of its distance k + 1 has a preferred neighbour registered with bit k
+pub safe-preferred : (C : Cube) (k a nav : ℕ) → 0 < C .dim → nav < 2 ^ (C .dim) → weight nav ≡ suc k → safe C (suc k) a ≡ true
+    → (i : ℕ) × (i < C .dim) × (bit nav (suc i) ≡ true) × (registered (C .cut) (safe C k) a (suc i) ≡ true)
+safe-preferred C k a nav h hn w e =
+    both (bit nav) (registered (C .cut) (safe C k) a) (C .dim) (omega (arith, weight-below (C .dim) nav hn, safe-sum C k a h e))
 
 -- ---- the table
 

@@ -1,0 +1,3 @@
+pub mod Hops
+pub mod Answers
+pub mod Walks

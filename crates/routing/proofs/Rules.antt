@@ -1,0 +1,48 @@
+-- The laws of the masks that the routing rules offer.
+use mathlib.Core.Path.{_≡_, ap, ap₂, _∙_}
+use mathlib.Core.Bool.{Bool, true, false, not, _&&_, and-eq-true-iff}
+use Prim.Native.Nat.{ℕ, suc, _^_, _≤_, _<_}
+use native.Mathlib.Omega.{arith}
+use borrow.Author.Tests.{not-true}
+use Rattle.cube.specs.Bits.{bit, flip, weight}
+use Rattle.cube.proofs.Bits.{flip-lt}
+use Rattle.cube.proofs.Count.{bit-pack, pack-each, pack-find, pack-some, weight-le}
+use Rattle.report.specs.Health.{Cube}
+use Rattle.vectors.specs.Safety.{registered, safe, vectors}
+use Rattle.vectors.specs.Held.{own}
+use Rattle.vectors.proofs.Safety.{safe-preferred}
+use Rattle.vectors.proofs.Held.{own-safe}
+use Rattle.routing.specs.Rules.{borne, offer, spare}
+
+-- what holds of each dimension among dims whose link is sound and whose neighbour has its bit holds of each dimension offered
+pub offer-each : (C : Cube) (bits : ℕ → Bool) (dims a : ℕ) (P : ℕ → Type 0)
+    → ((j : ℕ) → j < C .dim → bit dims (suc j) ≡ true → C .cut a (suc j) ≡ false → bits (flip a (suc j)) ≡ true → P (suc j))
+    → (i : ℕ) → bit (offer C bits dims a) i ≡ true → P i
+unfolding offer borne registered
+offer-each C bits dims a P each =
+    pack-each (borne C bits dims a) (C .dim) P (λ j l e.
+    let among = and-eq-true-iff (bit dims (suc j)) (registered (C .cut) bits a (suc j)) .0 e in
+    let has = and-eq-true-iff (not (C .cut a (suc j))) (bits (flip a (suc j))) .0 (among .1) in
+    each j l (among .0) (not-true _ (has .0)) (has .1))
+
+-- a mask that is not 0 offers some dimension
+pub offer-find : (C : Cube) (bits : ℕ → Bool) (dims a : ℕ) → 0 < offer C bits dims a → (i : ℕ) × (bit (offer C bits dims a) i ≡ true)
+unfolding offer
+offer-find C bits dims a h =
+    let (i, l, e) = pack-find (borne C bits dims a) (C .dim) h in
+    (suc i, bit-pack (borne C bits dims a) (C .dim) i l ∙ e)
+
+-- over Fill's table a board with its own bit of its distance offers some preferred dimension
+pub offer-pos : (C : Cube) (k a nav : ℕ) → 0 < C .dim → a < 2 ^ (C .dim) → nav < 2 ^ (C .dim) → weight nav ≡ suc k → safe C (suc k) a ≡ true
+    → 0 < offer C (own (vectors C) k) nav a
+unfolding offer borne registered
+offer-pos C k a nav h ha hn w e =
+    let (i, l, u, v) = safe-preferred C k a nav h hn w e in
+    let low : k ≤ C .dim = omega (arith, weight-le (C .dim) nav hn) in
+    pack-some (borne C (own (vectors C) k) nav a) (C .dim) i l
+    (ap₂ _&&_ u (ap (λ (b : Bool). not (C .cut a (suc i)) && b) (own-safe C k (flip a (suc i)) low (flip-lt (C .dim) a (suc i) ha l)) ∙ v))
+
+-- a spare dimension is not a one bit of the relative address
+pub spare-bit : (n nav i : ℕ) → i < n → bit (spare n nav) (suc i) ≡ not (bit nav (suc i))
+unfolding spare
+spare-bit n nav i h = bit-pack (λ j. not (bit nav j)) n i h
