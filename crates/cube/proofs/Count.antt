@@ -3,14 +3,14 @@ use mathlib.Core.Path.{_≡_, refl, ap, ap₂, sym, _∙_}
 use mathlib.Core.Bool.{Bool, true, false, not, xor, _||_, or-true, or-false, true≢false, false≢true}
 use mathlib.Core.Logic.{_⊎_, inl, inr, ⊎-elim}
 use Prim.Native.Nat.{ℕ, zero, suc, _+_, _*_, _-_, _/_, _%_, _^_, _≤_, _<_}
-use native.Mathlib.Nat.{mod-eq-of-lt, mod-one, mod-lt, lt-of-le-of-lt, add-zero, eq-zero-or-pos, pow-succ'}
+use native.Mathlib.Nat.{mod-eq-of-lt, mod-one, mod-lt, lt-of-le-of-lt, lt-of-lt-of-le, add-zero, eq-zero-or-pos, pow-succ'}
 use native.Mathlib.Numerals.{add-one, one-add}
 use native.Mathlib.Omega.{arith}
 use borrow.Author.Tests.{ltb-true, ltb-false, lt-ltb, le-ltb}
 use lib.Bits.{bitXor, xor-lt}
 use lib.Dec.{eqb, ltb}
 use lib.Count.{ones, ones-cat}
-use lib.Pow.{pow-pos, pow-lt, high, low, mod-pow-add}
+use lib.Pow.{pow-pos, pow-lt, pow-mono, high, low, mod-pow-add}
 use Rattle.cube.specs.Bits.{bit, place, flip, weight}
 use Rattle.cube.specs.Count.{one, pack, count, any}
 use Rattle.cube.proofs.Order.{lt-or-ge, eq-or-ne}
@@ -57,6 +57,15 @@ pack-cong p q (suc n) h = ap₂ (λ (x : ℕ) (b : Bool). x + one b * 2 ^ n) (pa
 pub pack-step : (p : ℕ → Bool) (i : ℕ) → pack p (i + 1) ≡ pack p i + one (p (i + 1)) * 2 ^ i
 unfolding pack
 pack-step p i = rw add-one
+
+-- one dimension more as the machine packs it, in a word of w bits
+pub pack-more : (p : ℕ → Bool) (i w x : ℕ) → i < w → x ≡ one (p (i + 1)) → pack p i + x * 2 ^ i % 2 ^ w ≡ pack p (i + 1)
+pack-more p i w x h e =
+    ap (λ (y : ℕ). pack p i + y) (ap (λ (y : ℕ). y * 2 ^ i % 2 ^ w) e ∙ one-shift (p (i + 1)) i w h) ∙ sym (pack-step p i)
+
+-- and it fits
+pub pack-fits : (p : ℕ → Bool) (i w x : ℕ) → i < w → x ≡ one (p (i + 1)) → pack p i + x * 2 ^ i % 2 ^ w < 2 ^ w
+pack-fits p i w x h e = rw (pack-more p i w x h e) (lt-of-lt-of-le (pack-lt p (i + 1)) (pow-mono {i = i + 1} {j = w} (omega arith)))
 
 -- the bits of a packed word
 pub bit-pack : (p : ℕ → Bool) (n i : ℕ) → i < n → bit (pack p n) (suc i) ≡ p (suc i)

@@ -1,4 +1,21 @@
 // Wu's two routing rules: the decision at the source, and the hop at a later node.
+use cube::{Nav, Node};
+
+ghost use mathlib.Core.Path.{_≡_};
+ghost use mathlib.Core.Bool.{true, false, _&&_};
+ghost use mathlib.Core.List.{List};
+ghost use Prim.Native.Nat.{ℕ, suc, _^_, _≤_, _<_};
+ghost use lib.Bits.{bitXor};
+ghost use lib.Dec.{eqb};
+ghost use Rattle.cube.specs.Bits.{bit, weight};
+ghost use Rattle.cube.specs.Count.{one};
+ghost use Rattle.report.specs.Report.{cut, cube};
+ghost use Rattle.vectors.specs.Safety.{registered};
+ghost use Rattle.vectors.specs.Held.{own};
+ghost use Rattle.routing.specs.Rules.{borne, offer, spare, choose, atSource, proceed, atNode};
+ghost use Rattle.routing.specs.Refusals.{routeRefusal};
+ghost use Rattle.routing.specs.Decide as deciding;
+ghost use Rattle.routing.specs.Hop as hopping;
 
 // The dimensions offered, dimension i at weight 2^(i−1), and the hops to the destination.
 pub struct Offer {
@@ -25,4 +42,83 @@ pub enum Step {
     Arrived,
     Offered(u16),
     Refused(u32),
+}
+
+// Whether dimension i is among dims and a's neighbour along it has bit k, as registered at a: 1 or 0.
+fn bears(links: &[u16], vectors: &[u16], dims: u16, a: Node, i: u32, k: u32) -> u16
+    requires { ⌜ (1 ≤ i) × (i ≤ 16) ⌝ }
+    ensures { λ r. ⌜ r ≡ one (bit dims i && registered (cut (now (links .entry))) (own (now (vectors .entry)) k) (a .0) i) ⌝ }
+{
+    if (dims >> (i - 1)) % 2 == 1 {
+        vectors::heard(links, vectors, a, i, k) as u16
+    } else {
+        0
+    }
+}
+
+// The mask of the dimensions among dims whose neighbour of a has bit k, as registered at a.
+fn mask(n: u32, links: &[u16], vectors: &[u16], dims: u16, a: Node, k: u32) -> u16
+    requires { ⌜ n ≤ 10 ⌝ }
+    ensures { λ r. ⌜ ((status : List ℕ) → r ≡ offer (cube n status (now (links .entry))) (own (now (vectors .entry)) k) dims (a .0)) ⌝ }
+{
+    let mut found: u16 = 0;
+    let mut i: u32 = 0;
+    while i < n {
+        found = found + (bears(links, vectors, dims, a, i + 1, k) << i);
+        i += 1;
+    }
+    found
+}
+
+// The mask of the spare dimensions of a relative address.
+fn spare(n: u32, nav: Nav) -> u16
+    requires { ⌜ (n ≤ 10) × (nav .0 < 2 ^ n) ⌝ }
+    ensures { λ r. ⌜ r ≡ spare n (nav .0) ⌝ }
+{
+    let all: u16 = 1 << n;
+    all - 1 - nav.0
+}
+
+// A source that has its own bit: assured by the mask P, unless it is empty.
+fn assured(p: u16, h: u32) -> Decision
+    ensures { λ r. ⌜ ((q : ℕ) → deciding.said r ≡ choose true p q h) ⌝ }
+{
+    if p == 0 {
+        return Decision::Refused(8);
+    }
+    Decision::Accepted(Kind::Assured(Offer { mask: p, hops: h }))
+}
+
+// A source with neither its own bit nor a lent one: a detour by the mask Q, unless it is empty.
+fn detour(q: u16, h: u32) -> Decision
+    requires { ⌜ h ≤ 16 ⌝ }
+    ensures { λ r. ⌜ deciding.said r ≡ choose false 0 q h ⌝ }
+{
+    if q == 0 {
+        return Decision::Refused(7);
+    }
+    Decision::Accepted(Kind::Detour(Offer {
+        mask: q,
+        hops: h + 2,
+    }))
+}
+
+// The rule at the source, H hops from the destination at nav.
+fn at_source(n: u32, links: &[u16], vectors: &[u16], s: Node, nav: Nav) -> Decision
+    requires { ⌜ (n ≤ 10) × (nav .0 < 2 ^ n) ⌝ }
+    ensures { λ r. ⌜ ((status : List ℕ) → deciding.said r ≡ atSource (cube n status (now (links .entry))) (own (now (vectors .entry))) (s .0) (nav .0) (weight (nav .0))) ⌝ }
+{
+    let h = nav.weight();
+    if h == 0 {
+        return Decision::Accepted(Kind::Home);
+    }
+    let p = mask(n, links, vectors, nav.0, s, h - 1);
+    if vectors::own(vectors, s, h) == 1 {
+        return assured(p, h);
+    }
+    if p != 0 {
+        return Decision::Accepted(Kind::Lent(Offer { mask: p, hops: h }));
+    }
+    let q = mask(n, links, vectors, spare(n, nav), s, h + 1);
+    detour(q, h)
 }
