@@ -1,7 +1,7 @@
 -- What the rules answer a message, at the source and under way, over Fill's table.
 use mathlib.Core.Path.{_≡_, refl, ap, sym, _∙_}
 use mathlib.Core.Bool.{Bool, true, false}
-use mathlib.Core.Logic.{_⊎_, inl, inr}
+use mathlib.Core.Logic.{_⊎_, inl, inr, _↔_}
 use Prim.Native.Nat.{ℕ, zero, suc, _+_, _≤_, _<_}
 use native.Mathlib.Omega.{arith}
 use lib.Count.{ones}
@@ -24,7 +24,7 @@ pub record Ends (nav left : ℕ) (reply : Reply Next) : Type 0 where
   pub none : left ≡ 0
   pub says : reply ≡ accepted arrived
 
--- the answer offers some dimension, and each that it offers is a hop on its way
+-- the answer offers some dimension, and each that it offers is a good hop
 pub record Leads (C : Cube) (d a nav left : ℕ) (reply : Reply Next) : Type 0 where
   pub far : nav ≡ 0 → ⊥
   pub mask : ℕ
@@ -36,29 +36,38 @@ pub record Leads (C : Cube) (d a nav left : ℕ) (reply : Reply Next) : Type 0 w
 abbrev pub Guides : Cube → ℕ → ℕ → ℕ → ℕ → Reply Next → Type 0
 Guides C d a nav left reply = Ends nav left reply ⊎ Leads C d a nav left reply
 
--- an answer that offers dimensions leads along each of them
-pub hopped : (C : Cube) (d a nav left : ℕ) (reply : Reply Next) (mask i : ℕ)
-    → Guides C d a nav left reply → reply ≡ accepted (onward mask) → bit mask i ≡ true → Hopped C d a nav left i
-hopped C d a nav left reply mask i (inl g) e b = absurd (let z : _≡_ {A = ℕ} 0 1 = cc (g .says) in omega arith)
-hopped C d a nav left reply mask i (inr g) e b = g .each i (let same : g .mask ≡ mask = cc (g .says) in rw same b)
+module _ {C : Cube} {d a nav left : ℕ} {reply : Reply Next} where
+  -- each dimension offered is a good hop
+  pub hopped : {mask i : ℕ} → Guides C d a nav left reply → reply ≡ accepted (onward mask) → bit mask i ≡ true → Hopped C d a nav left i
+  hopped (inl g) e b = absurd (let z : _≡_ {A = ℕ} 0 1 = cc (g .says) in omega arith)
+  hopped {mask} {i} (inr g) e b = g .each i (let same : g .mask ≡ mask = cc (g .says) in rw same b)
 
--- it refuses nothing
-pub guides-accepts : (C : Cube) (d a nav left : ℕ) (reply : Reply Next) (k : ℕ) → Guides C d a nav left reply → reply ≡ refused k → ⊥
-guides-accepts C d a nav left reply k (inl g) e = let z : _≡_ {A = ℕ} 0 1 = cc (g .says) in omega arith
-guides-accepts C d a nav left reply k (inr g) e = let z : _≡_ {A = ℕ} 0 1 = cc (g .says) in omega arith
+  -- nothing is refused
+  pub no-refusal-of : {m : ℕ} → Guides C d a nav left reply → reply ≡ refused m → ⊥
+  no-refusal-of (inl g) e = let z : _≡_ {A = ℕ} 0 1 = cc (g .says) in omega arith
+  no-refusal-of (inr g) e = let z : _≡_ {A = ℕ} 0 1 = cc (g .says) in omega arith
 
--- there are at most n + 1 hops left
-pub guides-le : (C : Cube) (d a nav left : ℕ) (reply : Reply Next) → Guides C d a nav left reply → left ≤ C .dim + 1
-guides-le C d a nav left reply (inl g) = omega (arith, g .none)
-guides-le C d a nav left reply (inr g) = let h = g .each (g .some .0) (g .some .1) in omega (arith, weight-le (C .dim) _ (h .way .at .near), h .fewer)
+  -- the message has arrived exactly where no hop is left
+  pub left-zero : Guides C d a nav left reply → (nav ≡ 0) ↔ (left ≡ 0)
+  left-zero (inl g) = (λ z. g .none, λ z. g .near)
+  left-zero (inr g) = (λ z. absurd (g .far z), λ z. absurd (omega (arith, g .each (g .some .0) (g .some .1) .fewer)))
 
--- of Decide's rule: it refuses by 7 alone, and what it accepts takes the hops promised
+  -- at most n + 1 hops are left
+  pub left-le : Guides C d a nav left reply → left ≤ C .dim + 1
+  left-le (inl g) = omega (arith, g .none)
+  left-le (inr g) = let h = g .each (g .some .0) (g .some .1) in omega (arith, weight-le (C .dim) _ (h .way .at .near), h .fewer)
+
+-- what holds of Decide's rule: it refuses by 7 alone, and what it accepts takes the hops promised
 abbrev pub Fair : Cube → ℕ → ℕ → ℕ → Reply Choice → Type 0
 Fair C d s nav (refused m) = m ≡ 7
 Fair C d s nav (accepted c) = (hopsOf c ≡ weight nav + beyond c) × Guides C d s nav (hopsOf c) (accepted (told c))
 
-module _ (C : Cube) (d a nav : ℕ) (m : At C d a nav) where
-  -- a mask that is not 0 leads where each dimension of it is a hop on its way
+module _ {C : Cube} {d a nav : ℕ} (m : At C d a nav) where
+  -- at distance 0 the message has arrived
+  ends : weight nav ≡ 0 → Ends nav 0 (accepted arrived)
+  ends w = record { near = weight-zero (C .dim) nav (m .near) w; none = refl; says = refl }
+
+  -- a mask that is not 0 leads, where each dimension of it is a good hop
   leads : (bits : ℕ → Bool) (dims left p : ℕ) → 0 < weight nav → offer C bits dims a ≡ suc p
       → ((i : ℕ) → bit (offer C bits dims a) i ≡ true → Hopped C d a nav left i) → Leads C d a nav left (accepted (onward (suc p)))
   unfolding ones
@@ -71,28 +80,11 @@ module _ (C : Cube) (d a nav : ℕ) (m : At C d a nav) where
         each = each;
       }
 
-  -- the mask P leads
+  -- so the mask P leads
   preferred-leads : (h p : ℕ) → weight nav ≡ suc h → offer C (own (vectors C) h) nav a ≡ suc p → Leads C d a nav (suc h) (accepted (onward (suc p)))
-  preferred-leads h p w e = leads (own (vectors C) h) nav (suc h) p (omega arith) e (preferred-hop C d a nav h m w)
+  preferred-leads h p w e = leads (own (vectors C) h) nav (suc h) p (omega arith) e (preferred-hop m w)
 
-  -- at distance 0 the message has arrived
-  ends : weight nav ≡ 0 → Ends nav 0 (accepted arrived)
-  ends w = record { near = weight-zero (C .dim) nav (m .near) w; none = refl; says = refl }
-
-  -- Hop's rule under way
-  pub node-guides : safe C (weight nav) a ≡ true → Guides C d a nav (weight nav) (atNode C (own (vectors C)) a nav (weight nav))
-  unfolding atNode
-  node-guides = go (weight nav) refl
-    where
-      step : (h p : ℕ) → weight nav ≡ suc h → offer C (own (vectors C) h) nav a ≡ p → 0 < p → Guides C d a nav (suc h) (proceed p)
-      step h zero w e l = absurd (omega arith)
-      step h (suc p) w e l = inr (preferred-leads h p w e)
-
-      go : (h : ℕ) → weight nav ≡ h → safe C h a ≡ true → Guides C d a nav h (atNode C (own (vectors C)) a nav h)
-      go zero w s = inl (ends w)
-      go (suc h) w s = step h _ w refl (offer-pos C h a nav (m .size) (m .node) (m .near) w s)
-
-  -- Decide's rule
+  -- the rule at the source
   pub source-fair : Fair C d a nav (atSource C (own (vectors C)) a nav (weight nav))
   unfolding atSource told beyond
   source-fair = go (weight nav) refl
@@ -106,9 +98,25 @@ module _ (C : Cube) (d a nav : ℕ) (m : At C d a nav) where
       pick h w true (suc p) q eb ep eq = (omega arith, inr (preferred-leads h p w ep))
       pick h w false (suc p) q eb ep eq = (omega arith, inr (preferred-leads h p w ep))
       pick h w false zero (suc q) eb ep eq =
-          (omega arith, inr (leads (own (vectors C) (suc (suc h))) (spare (C .dim) nav) (suc h + 2) q (omega arith) eq (spare-hop C d a nav h m w (held h w ∙ eb))))
+          (omega arith, inr (leads (own (vectors C) (suc (suc h))) (spare (C .dim) nav) (suc h + 2) q (omega arith) eq (spare-hop m w (held h w ∙ eb))))
       pick h w false zero zero eb ep eq = refl
 
       go : (h : ℕ) → weight nav ≡ h → Fair C d a nav (atSource C (own (vectors C)) a nav h)
       go zero w = (omega arith, inl (ends w))
       go (suc h) w = pick h w _ _ _ refl refl refl
+
+-- the rule at a board under way
+pub node-guides : {C : Cube} {d a nav : ℕ} → UnderWay C d a nav → Guides C d a nav (weight nav) (atNode C (own (vectors C)) a nav (weight nav))
+unfolding atNode
+node-guides {C} {d} {a} {nav} u = go (weight nav) refl (u .bears)
+  where
+    m : At C d a nav
+    m = u .at
+
+    step : (h p : ℕ) → weight nav ≡ suc h → offer C (own (vectors C) h) nav a ≡ p → 0 < p → Guides C d a nav (suc h) (proceed p)
+    step h zero w e l = absurd (omega arith)
+    step h (suc p) w e l = inr (preferred-leads m h p w e)
+
+    go : (h : ℕ) → weight nav ≡ h → safe C h a ≡ true → Guides C d a nav h (atNode C (own (vectors C)) a nav h)
+    go zero w s = inl (ends m w)
+    go (suc h) w s = step h _ w refl (offer-pos C h a nav (m .size) (m .node) (m .near) w s)

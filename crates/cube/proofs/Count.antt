@@ -1,12 +1,12 @@
 -- The laws of `pack`, `count`, `any` and `weight`. "For i from 1 to n" is said of `suc i` with i below n.
 use mathlib.Core.Path.{_≡_, refl, ap, ap₂, sym, _∙_}
 use mathlib.Core.Bool.{Bool, true, false, not, xor, _||_, or-true, or-false, true≢false, false≢true}
-use mathlib.Core.Logic.{_⊎_, inl, inr, ⊎-elim}
+use mathlib.Core.Logic.{⊎-elim}
 use Prim.Native.Nat.{ℕ, zero, suc, _+_, _*_, _-_, _/_, _%_, _^_, _≤_, _<_}
 use native.Mathlib.Nat.{mod-eq-of-lt, mod-one, mod-lt, lt-of-le-of-lt, lt-of-lt-of-le, add-zero, eq-zero-or-pos, pow-succ'}
 use native.Mathlib.Numerals.{add-one, one-add}
 use native.Mathlib.Omega.{arith}
-use borrow.Author.Tests.{ltb-true, ltb-false, lt-ltb, le-ltb}
+use borrow.Author.Tests.{lt-ltb}
 use lib.Bits.{bitXor, xor-lt}
 use lib.Dec.{eqb, ltb}
 use lib.Count.{ones, ones-cat}

@@ -66,6 +66,7 @@ word-limit n w h = ⊎-elim small large (lt-or-ge n 16)
 
 -- ---- acceptable reports
 
+-- a dimension is from 1 to 10
 pub dimension-range : (n : ℕ) → dimension n ≡ true → (1 ≤ n) × (n ≤ 10)
 unfolding dimension
 dimension-range n e = let t = and-eq-true-iff (leb 1 n) (leb n 10) .0 e in (leb-true 1 n (t .0), leb-true n 10 (t .1))

@@ -19,6 +19,7 @@ pub record Clear (n : ℕ) (status links vectors : List ℕ) (a b d : ℕ) : Typ
   pub there : works status d ≡ true
 
 module _ (n : ℕ) (status links vectors : List ℕ) (a b d : ℕ) where
+  -- where nothing refuses, every test passes
   pub clear-of-none : routeRefusal n status links vectors a b d ≡ 0 → Clear n status links vectors a b d
   unfolding routeRefusal
   clear-of-none e =
@@ -37,6 +38,7 @@ module _ (n : ℕ) (status links vectors : List ℕ) (a b d : ℕ) where
         there = not-false _ (t6 .0);
       }
 
+  -- and the other way round
   pub none-of-clear : Clear n status links vectors a b d → routeRefusal n status links vectors a b d ≡ 0
   unfolding routeRefusal
   none-of-clear c = rw (c .dim, c .sizes, lt-ltb a (2 ^ n) (c .node), lt-ltb b (2 ^ n) (c .other), c .here, c .there)
