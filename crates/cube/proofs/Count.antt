@@ -20,6 +20,15 @@ pub one-le : (b : Bool) → one b ≤ 1
 one-le true = omega arith
 one-le false = omega arith
 
+-- a bit by its number
+pub one-true : (b : Bool) (x : ℕ) → x ≡ one b → x ≡ 1 → b ≡ true
+one-true true x e h = refl
+one-true false x e h = absurd (omega arith)
+
+pub one-false : (b : Bool) (x : ℕ) → x ≡ one b → (x ≡ 1 → ⊥) → b ≡ false
+one-false true x e h = absurd (h e)
+one-false false x e h = refl
+
 one-eqb : (d : ℕ) → d < 2 → one (eqb d 1) ≡ d
 one-eqb zero h = refl
 one-eqb (suc zero) h = refl

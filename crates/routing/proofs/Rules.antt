@@ -1,18 +1,20 @@
 -- The laws of the masks that the routing rules offer.
-use mathlib.Core.Path.{_≡_, ap, ap₂, _∙_}
+use mathlib.Core.Path.{_≡_, refl, ap, ap₂, _∙_}
 use mathlib.Core.Bool.{Bool, true, false, not, _&&_, and-eq-true-iff}
-use Prim.Native.Nat.{ℕ, suc, _^_, _≤_, _<_}
+use Prim.Native.Nat.{ℕ, zero, suc, _+_, _-_, _^_, _≤_, _<_}
+use native.Mathlib.Numerals.{add-one}
 use native.Mathlib.Omega.{arith}
 use borrow.Author.Tests.{not-true}
 use Rattle.cube.specs.Bits.{bit, flip, weight}
 use Rattle.cube.proofs.Bits.{flip-lt}
-use Rattle.cube.proofs.Count.{bit-pack, pack-each, pack-find, pack-some, weight-le}
+use Rattle.cube.proofs.Count.{bit-pack, pack-each, pack-find, pack-some, pack-not, pack-own, weight-le}
+use Rattle.cube.specs.Reply.{accepted}
 use Rattle.report.specs.Health.{Cube}
 use Rattle.vectors.specs.Safety.{registered, safe, vectors}
 use Rattle.vectors.specs.Held.{own}
 use Rattle.vectors.proofs.Safety.{safe-preferred}
 use Rattle.vectors.proofs.Held.{own-safe}
-use Rattle.routing.specs.Rules.{borne, offer, spare}
+use Rattle.routing.specs.Rules.{borne, offer, spare, assured, lent, detour, choose, atSource, onward, proceed, atNode}
 
 -- what holds of each dimension among dims whose link is sound and whose neighbour has its bit holds of each dimension offered
 pub offer-each : (C : Cube) (bits : ℕ → Bool) (dims a : ℕ) (P : ℕ → Type 0)
@@ -46,3 +48,50 @@ offer-pos C k a nav h ha hn w e =
 pub spare-bit : (n nav i : ℕ) → i < n → bit (spare n nav) (suc i) ≡ not (bit nav (suc i))
 unfolding spare
 spare-bit n nav i h = bit-pack (λ j. not (bit nav j)) n i h
+
+-- the spare dimensions are all but the one bits, as the machine takes them away
+pub spare-rest : (n nav : ℕ) → nav < 2 ^ n → spare n nav ≡ 2 ^ n - 1 - nav
+unfolding spare
+spare-rest n nav h = omega (arith, pack-not (bit nav) n, pack-own nav n h)
+
+-- ---- the rule at the source, case by case
+
+-- with its own bit and P not empty a source is assured
+pub choose-assured : (p q h : ℕ) → (p ≡ 0 → ⊥) → choose true p q h ≡ accepted (assured p h)
+unfolding choose
+choose-assured zero q h nz = absurd (nz refl)
+choose-assured (suc p) q h nz = refl
+
+-- without it, and P not empty, the route is lent
+pub choose-lent : (p q h : ℕ) → (p ≡ 0 → ⊥) → choose false p q h ≡ accepted (lent p h)
+unfolding choose
+choose-lent zero q h nz = absurd (nz refl)
+choose-lent (suc p) q h nz = refl
+
+-- with P empty and Q not, it is a detour
+pub choose-detour : (q h : ℕ) → (q ≡ 0 → ⊥) → choose false 0 q h ≡ accepted (detour q (h + 2))
+unfolding choose
+choose-detour zero h nz = absurd (nz refl)
+choose-detour (suc q) h nz = refl
+
+-- at a distance that is not 0
+pub source-away : (C : Cube) (bits : ℕ → ℕ → Bool) (s nav h : ℕ) → (h ≡ 0 → ⊥)
+    → atSource C bits s nav h ≡ choose (bits h s) (offer C (bits (h - 1)) nav s) (offer C (bits (h + 1)) (spare (C .dim) nav) s) h
+unfolding atSource
+source-away C bits s nav zero nz = absurd (nz refl)
+source-away C bits s nav (suc h) nz =
+    let e : suc h - 1 ≡ h = omega arith in rw (e, add-one)
+
+-- ---- the rule at a later node
+
+pub proceed-some : (p : ℕ) → (p ≡ 0 → ⊥) → proceed p ≡ accepted (onward p)
+unfolding proceed
+proceed-some zero nz = absurd (nz refl)
+proceed-some (suc p) nz = refl
+
+pub node-away : (C : Cube) (bits : ℕ → ℕ → Bool) (a nav h : ℕ) → (h ≡ 0 → ⊥)
+    → atNode C bits a nav h ≡ proceed (offer C (bits (h - 1)) nav a)
+unfolding atNode
+node-away C bits a nav zero nz = absurd (nz refl)
+node-away C bits a nav (suc h) nz =
+    let e : suc h - 1 ≡ h = omega arith in rw e

@@ -1,6 +1,6 @@
 // Wu's two routing rules: the decision at the source, and the hop at a later node.
-use cube::{Nav, Node};
-
+use cube::Nav;
+use cube::Node;
 ghost use mathlib.Core.Path.{_≡_};
 ghost use mathlib.Core.Bool.{true, false, _&&_};
 ghost use mathlib.Core.List.{List};
@@ -121,4 +121,78 @@ fn at_source(n: u32, links: &[u16], vectors: &[u16], s: Node, nav: Nav) -> Decis
     }
     let q = mask(n, links, vectors, spare(n, nav), s, h + 1);
     detour(q, h)
+}
+
+// The number by which Decide and Hop refuse before their rules, 0 for none: at node a, for destination d; b is the destination or the relative address.
+fn route_refusal(
+    n: u32,
+    status: &[u8],
+    links: &[u16],
+    vectors: &[u16],
+    a: Node,
+    b: u16,
+    d: Node,
+) -> u32
+    ensures { λ r. ⌜ r ≡ routeRefusal n (now (status .entry)) (now (links .entry)) (now (vectors .entry)) (a .0) b (d .0) ⌝ }
+{
+    if !report::dimension(n) {
+        return 1;
+    }
+    if !report::all_sized(n, status.len(), links.len(), vectors.len()) {
+        return 2;
+    }
+    if !report::both_within(n, a.0, b) {
+        return 4;
+    }
+    if !report::works(status, a) {
+        return 5;
+    }
+    if !report::works(status, d) {
+        return 6;
+    }
+    0
+}
+
+// Decide: the decision at a source s for a destination d, over lent vectors.
+pub fn decide(n: u32, status: &[u8], links: &[u16], vectors: &[u16], s: Node, d: Node) -> Decision
+    ensures { λ r. ⌜ deciding.said r ≡ deciding.decide n (now (status .entry)) (now (links .entry)) (now (vectors .entry)) (s .0) (d .0) ⌝ }
+{
+    let number = route_refusal(n, status, links, vectors, s, d.0, d);
+    if number != 0 {
+        return Decision::Refused(number);
+    }
+    at_source(n, links, vectors, s, s.to(d))
+}
+
+// What the mask P says at a later node.
+fn proceed(p: u16) -> Step
+    ensures { λ r. ⌜ hopping.said r ≡ proceed p ⌝ }
+{
+    if p == 0 {
+        return Step::Refused(9);
+    }
+    Step::Offered(p)
+}
+
+// The rule at a later node a, with the destination at nav.
+fn at_node(n: u32, links: &[u16], vectors: &[u16], a: Node, nav: Nav) -> Step
+    requires { ⌜ n ≤ 10 ⌝ }
+    ensures { λ r. ⌜ ((status : List ℕ) → hopping.said r ≡ atNode (cube n status (now (links .entry))) (own (now (vectors .entry))) (a .0) (nav .0) (weight (nav .0))) ⌝ }
+{
+    let h = nav.weight();
+    if h == 0 {
+        return Step::Arrived;
+    }
+    proceed(mask(n, links, vectors, nav.0, a, h - 1))
+}
+
+// Hop: the hop at a later node a with a relative address, over lent vectors.
+pub fn hop(n: u32, status: &[u8], links: &[u16], vectors: &[u16], a: Node, nav: Nav) -> Step
+    ensures { λ r. ⌜ hopping.said r ≡ hopping.hop n (now (status .entry)) (now (links .entry)) (now (vectors .entry)) (a .0) (nav .0) ⌝ }
+{
+    let number = route_refusal(n, status, links, vectors, a, nav.0, a.at(nav));
+    if number != 0 {
+        return Step::Refused(number);
+    }
+    at_node(n, links, vectors, a, nav)
 }

@@ -1,15 +1,16 @@
+-- `routing::assured` meets its contract.
+use mathlib.Core.Path.{sym}
+use Rattle.routing.specs.Rules.{choose}
+use Rattle.routing.proofs.Rules.{choose-assured}
 use Rattle.routing.proofs.assured.Statement.{statement}
 use Rattle.routing.proofs.assured.Tie as tie
-use Rattle.routing.proofs.assured.Reads as reads
-use Rattle.routing.proofs.assured.Lts as lts
 
--- src/lib.rt:87:9
 returns : tie.Need-returns
-returns c = ?
+unfolding choose
+returns c = λ q. rw (c .if1 .taken)
 
--- src/lib.rt:83:1
 returns-2 : tie.Need-returns-2
-returns-2 c = ?
+returns-2 c = λ q. sym (choose-assured (c .before .args .p) q (c .before .args .h) (c .if1 .left))
 
 pub assured-spec : {M : Type 1} → statement M
 assured-spec = tie.close (tie.spec returns returns-2)

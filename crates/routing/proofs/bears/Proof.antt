@@ -25,18 +25,18 @@ heard-requires : tie.Need-heard-requires
 heard-requires c κs = search needs
 
 cast-result : tie.Need-cast-result
-cast-result c = 
+cast-result c =
     let a = c .before .before .before .before .args in
     omega (arith, c .heard .ensures, one-le (heard (now (a .links)) (now (a .vectors)) (a .k) (a .a .0) (a .i)))
 
 returns : tie.Need-returns
-returns c = 
+returns c =
     let a = c .before .before .before .before .args in
     let p = c .before .before .before .before .pre in
     rw (sym (bit-shift (a .dims) (a .i) (p .0)) ∙ eq-eqb _ 1 (c .before .if1 .taken)) (c .heard .ensures ∙ ap one (heard-at (now (a .links)) (now (a .vectors)) (a .k) (a .a .0) (a .i) (p .0) (p .1)))
 
 returns-2 : tie.Need-returns-2
-returns-2 c = 
+returns-2 c =
     let a = c .before .before .before .args in
     rw (sym (bit-shift (a .dims) (a .i) (c .before .before .before .pre .0)) ∙ ne-eqb _ 1 (c .if1 .left))
 

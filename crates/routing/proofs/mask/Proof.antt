@@ -37,7 +37,7 @@ shl-found c = search needs
 
 add-found : tie.Need-add-found Inv-loop μ-loop
 unfolding borne cube
-add-found c = 
+add-found c =
     let a = c .before .before .before .before .before .args in
     record { fits = rw (c .before .before .loop .inv .1) (pack-fits (borne (cube (a .n) [] (now (a .links))) (own (now (a .vectors)) (a .k)) (a .dims) (a .a .0)) (c .before .before .loop .i) 16 (c .bears .result) (omega arith) (c .bears .ensures)) }
 
@@ -49,7 +49,7 @@ loop-less c = search needs
 
 loop-again : tie.Need-loop-again Inv-loop μ-loop
 unfolding borne cube
-loop-again c = 
+loop-again c =
     let a = c .before .before .before .before .before .args in
     (omega arith, rw (c .before .before .loop .inv .1) (pack-more (borne (cube (a .n) [] (now (a .links))) (own (now (a .vectors)) (a .k)) (a .dims) (a .a .0)) (c .before .before .loop .i) 16 (c .bears .result) (omega arith) (c .bears .ensures)))
 
