@@ -23,7 +23,7 @@ fn word(bytes: &[u8], i: usize) -> u16
 }
 
 // How many nodes a cube of dimension n has.
-fn nodes_of(n: u8) -> usize
+fn nodes_of(n: u32) -> usize
     requires { ⌜ n ≤ 10 ⌝ }
     ensures { λ r. ⌜ r ≡ 2 ^ n ⌝ }
     ensures { λ r. ⌜ r ≤ 1024 ⌝ }
@@ -73,7 +73,7 @@ fn refusal(bytes: &[u8], status: &[u8], links: &[u16]) -> u32
     if kind != 1 {
         return 10;
     }
-    let n = bytes[4];
+    let n = bytes[4] as u32;
     if n < 1 {
         return 1;
     }
@@ -136,11 +136,11 @@ pub fn open(bytes: &[u8], status: &mut [u8], links: &mut [u16]) -> Opened
     if number != 0 {
         return Opened::Refused(number);
     }
-    let n = bytes[4];
+    let n = bytes[4] as u32;
     let nodes = nodes_of(n);
     write_status(bytes, nodes, status);
     write_links(bytes, nodes, links);
-    Opened::Cube(n as u32)
+    Opened::Cube(n)
 }
 
 // For every input the contract of `open` allows one answer.

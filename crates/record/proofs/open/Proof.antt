@@ -1,23 +1,12 @@
 -- `record::open` meets its contract: a refusal is handed on, and where there is none the record is readable.
 use borrow.Author.Needs.{needs}
-use mathlib.Core.Path.{_≡_, sym, _∙_}
-use mathlib.Core.List.{List}
-use Prim.Native.Nat.{ℕ}
+use mathlib.Core.Path.{_≡_, _∙_}
 use native.Mathlib.Omega.{arith}
 use denote.Ref.{now}
 use Rattle.record.specs.Open.{openRefusal}
 use Rattle.record.proofs.Refusals.{readable, after-refusal, after-reading}
 use Rattle.record.proofs.open.Statement.{statement}
 use Rattle.record.proofs.open.Tie as tie
-
-abbrev bytesOf : tie.Else1 → List ℕ
-bytesOf c = now (c .before .before .before .before .before .before .before .args .bytes)
-
-abbrev statusOf : tie.Else1 → List ℕ
-statusOf c = now (c .before .before .before .before .before .before .before .args .status)
-
-abbrev linksOf : tie.Else1 → List ℕ
-linksOf c = now (c .before .before .before .before .before .before .before .args .links)
 
 refusal-requires : tie.Need-refusal-requires
 refusal-requires c κs = search needs
@@ -29,14 +18,20 @@ same-length-2 : tie.Need-same-length-2
 same-length-2 c = search needs
 
 returns : tie.Need-returns
-returns c = after-refusal _ _ _ _ (c .before .refusal .ensures) (c .if1 .taken)
+returns c = after-refusal _ _ _ _ (c .before .refusal .ensures) (λ e. c .if1 .taken (omega arith))
+
+abbrev start : tie.Else1 → tie.Start
+start c = c .before .before .before .before .before .before .before
 
 -- past the refusals
-none : (c : tie.Else1) → openRefusal (bytesOf c) (statusOf c) (linksOf c) ≡ 0
-none c = sym (c .before .refusal .ensures) ∙ c .if1 .left
+none : (c : tie.Else1) → openRefusal (now (start c .args .bytes)) (now (start c .args .status)) (now (start c .args .links)) ≡ 0
+none c = omega arith
 
 shared-slice-read-n : tie.Need-shared-slice-read-n
 shared-slice-read-n c = omega (arith, readable _ _ _ (none (c .before)))
+
+cast-n : tie.Need-cast-n
+cast-n c = omega (arith, readable _ _ _ (none (c .before)))
 
 nodes-of-requires : tie.Need-nodes-of-requires
 nodes-of-requires c κs = readable _ _ _ (none (c .before)) .dimensions
@@ -46,9 +41,6 @@ write-status-requires c κs = omega (arith, readable _ _ _ (none (c .before .bef
 
 write-links-requires : tie.Need-write-links-requires
 write-links-requires c κs = omega (arith, readable _ _ _ (none (c .before .before .before .before .before .before .before)), c .before .before .before .before .before .nodes-of .ensures)
-
-cast-t19 : tie.Need-cast-t19
-cast-t19 c = omega (arith, readable _ _ _ (none (c .before .before .before .before .before .before .before .before .before .before)))
 
 same-length-3 : tie.Need-same-length-3
 same-length-3 c = search needs
@@ -70,10 +62,10 @@ open-spec =
     same-length-2
     returns
     shared-slice-read-n
+    cast-n
     nodes-of-requires
     write-status-requires
     write-links-requires
-    cast-t19
     same-length-3
     same-length-4
     returns-2)

@@ -1,8 +1,8 @@
 -- `record::refusal` meets its contract: at each way out the tests before it say which refusal comes first.
+use borrow.Author.Needs.{needs}
 use mathlib.Core.Path.{sym, _∙_}
 use native.Mathlib.Omega.{arith}
 use Rattle.record.proofs.Refusals.{refuse-short, refuse-length, refuse-kind, refuse-low, refuse-high, refuse-size, refuse-status, refuse-links, refuse-wide, refuse-none}
-use borrow.Author.Needs.{needs}
 use Rattle.record.proofs.refusal.Statement.{statement}
 use Rattle.record.proofs.refusal.Tie as tie
 
@@ -29,6 +29,9 @@ returns-3 c = sym (refuse-kind _ _ _ (omega arith) (omega arith) (λ e. c .if3 .
 
 shared-slice-read-n : tie.Need-shared-slice-read-n
 shared-slice-read-n c = search needs
+
+cast-n : tie.Need-cast-n
+cast-n c = omega (arith, c .shared-slice-known4 .given 4)
 
 returns-4 : tie.Need-returns-4
 returns-4 c = sym (refuse-low _ _ _ (omega arith) (omega arith) (omega arith) (omega arith))
@@ -75,6 +78,7 @@ refusal-spec =
     word-requires-2
     returns-3
     shared-slice-read-n
+    cast-n
     returns-4
     returns-5
     nodes-of-requires

@@ -23,7 +23,9 @@ cast-high : tie.Need-cast-high
 cast-high c = omega (arith, c .shared-slice-known2 .given (c .before .before .args .i + 1))
 
 mul-result : tie.Need-mul-result
-mul-result c = omega (arith, c .shared-slice-known2 .given (c .before .before .args .i + 1))
+mul-result c =
+    let i = c .before .before .args .i in
+    omega (arith, c .shared-slice-known2 .given i, c .shared-slice-known2 .given (i + 1))
 
 add-result : tie.Need-add-result
 add-result c =
