@@ -1,7 +1,149 @@
 // One report record: bytes on the wire.
+ghost use mathlib.Core.Path.{_≡_};
+ghost use mathlib.Core.List.{_++_};
+ghost use Prim.Native.Nat.{_+_, _*_, _^_, _<_, _≤_};
+ghost use lib.ListN.{length, drop};
+ghost use Rattle.report.specs.Report.{narrow};
+ghost use Rattle.record.specs.Open.{word, nIn, statusIn, linkIn, linksIn, openRefusal, opened, statusAfter, linksAfter, said, OneAnswer};
 
 // What Open answers.
 pub enum Opened {
     Cube(u32),
     Refused(u32),
 }
+
+// The two bytes at i as a number.
+fn word(bytes: &[u8], i: usize) -> u16
+    requires { ⌜ i + 1 < length (now bytes) ⌝ }
+    ensures { λ r. ⌜ r ≡ word (now (bytes .entry)) i ⌝ }
+{
+    let low = bytes[i] as u16;
+    let high = bytes[i + 1] as u16;
+    low + 256 * high
+}
+
+// How many nodes a cube of dimension n has.
+fn nodes_of(n: u32) -> usize
+    requires { ⌜ n ≤ 10 ⌝ }
+    ensures { λ r. ⌜ r ≡ 2 ^ n ⌝ }
+    ensures { λ r. ⌜ r ≤ 1024 ⌝ }
+{
+    1 << n
+}
+
+// The link word of node a in a record of that many nodes.
+fn link(bytes: &[u8], nodes: usize, a: usize) -> u16
+    requires { ⌜ nodes ≡ 2 ^ nIn (now bytes) ⌝ }
+    requires { ⌜ length (now bytes) ≡ 5 + 3 * nodes ⌝ }
+    requires { ⌜ a < nodes ⌝ }
+    ensures { λ r. ⌜ r ≡ linkIn (now (bytes .entry)) a ⌝ }
+{
+    word(bytes, 5 + nodes + 2 * a)
+}
+
+// Whether every link word of a record of that many nodes is below their number.
+fn narrow_links(bytes: &[u8], nodes: usize) -> bool
+    requires { ⌜ nodes ≡ 2 ^ nIn (now bytes) ⌝ }
+    requires { ⌜ length (now bytes) ≡ 5 + 3 * nodes ⌝ }
+    ensures { λ r. ⌜ r ≡ narrow (nIn (now (bytes .entry))) (linksIn (now (bytes .entry))) ⌝ }
+{
+    let mut a: usize = 0;
+    while a < nodes {
+        let marks = link(bytes, nodes, a) as usize;
+        if nodes <= marks {
+            return false;
+        }
+        a += 1;
+    }
+    true
+}
+
+// The number of the first refusal, 0 where there is none.
+fn refusal(bytes: &[u8], status: &[u8], links: &[u16]) -> u32
+    ensures { λ r. ⌜ r ≡ openRefusal (now (bytes .entry)) (now (status .entry)) (now (links .entry)) ⌝ }
+{
+    if bytes.len() < 5 {
+        return 10;
+    }
+    let length = word(bytes, 0) as usize;
+    if length != bytes.len() - 2 {
+        return 10;
+    }
+    let kind = word(bytes, 2);
+    if kind != 1 {
+        return 10;
+    }
+    let n = bytes[4] as u32;
+    if n < 1 {
+        return 1;
+    }
+    if 10 < n {
+        return 1;
+    }
+    let nodes = nodes_of(n);
+    let wanted = 3 + 3 * nodes;
+    if length != wanted {
+        return 10;
+    }
+    if status.len() < nodes {
+        return 2;
+    }
+    if links.len() < nodes {
+        return 2;
+    }
+    let narrow = narrow_links(bytes, nodes);
+    if narrow {
+        return 0;
+    }
+    3
+}
+
+// Copies the status bytes of a record of that many nodes into the first places.
+fn write_status(bytes: &[u8], nodes: usize, status: &mut [u8])
+    requires { ⌜ nodes ≡ 2 ^ nIn (now bytes) ⌝ }
+    requires { ⌜ length (now bytes) ≡ 5 + 3 * nodes ⌝ }
+    requires { ⌜ nodes ≤ length (now status) ⌝ }
+    ensures { λ _. ⌜ now (status .exit) ≡ statusIn (now (bytes .entry)) ++ drop (2 ^ nIn (now (bytes .entry))) (now (status .entry)) ⌝ }
+{
+    let mut a: usize = 0;
+    while a < nodes {
+        status[a] = bytes[5 + a];
+        a += 1;
+    }
+}
+
+// Copies the link words of a record of that many nodes into the first places.
+fn write_links(bytes: &[u8], nodes: usize, links: &mut [u16])
+    requires { ⌜ nodes ≡ 2 ^ nIn (now bytes) ⌝ }
+    requires { ⌜ length (now bytes) ≡ 5 + 3 * nodes ⌝ }
+    requires { ⌜ nodes ≤ length (now links) ⌝ }
+    ensures { λ _. ⌜ now (links .exit) ≡ linksIn (now (bytes .entry)) ++ drop (2 ^ nIn (now (bytes .entry))) (now (links .entry)) ⌝ }
+{
+    let mut a: usize = 0;
+    while a < nodes {
+        links[a] = link(bytes, nodes, a);
+        a += 1;
+    }
+}
+
+// Reads a record: gives its n back, and writes its status bytes and link words into the first 2^n places of the lent slices.
+pub fn open(bytes: &[u8], status: &mut [u8], links: &mut [u16]) -> Opened
+    ensures { λ r. ⌜ said r ≡ opened (now (bytes .entry)) (now (status .entry)) (now (links .entry)) ⌝ }
+    ensures { λ _. ⌜ now (status .exit) ≡ statusAfter (now (bytes .entry)) (now (status .entry)) (now (links .entry)) ⌝ }
+    ensures { λ _. ⌜ now (links .exit) ≡ linksAfter (now (bytes .entry)) (now (status .entry)) (now (links .entry)) ⌝ }
+{
+    let number = refusal(bytes, status, links);
+    if number != 0 {
+        return Opened::Refused(number);
+    }
+    let n = bytes[4] as u32;
+    let nodes = nodes_of(n);
+    write_status(bytes, nodes, status);
+    write_links(bytes, nodes, links);
+    Opened::Cube(n)
+}
+
+// For every input the contract of `open` allows one answer.
+pub fn one_answer()
+    ensures { λ r. ⌜ OneAnswer ⌝ }
+{}

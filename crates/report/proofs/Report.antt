@@ -1,13 +1,13 @@
 -- The laws of what a report says of its boards and links.
 use mathlib.Core.Path.{_≡_, refl, ap, sym, _∙_}
-use mathlib.Core.Bool.{Bool, true, false, _&&_, and-eq-true-iff}
+use mathlib.Core.Bool.{Bool, true, false, _&&_, and-false, and-eq-true-iff}
 use mathlib.Core.List.{List, [], _∷_}
 use mathlib.Core.Logic.{⊎-elim}
 use Prim.Native.Nat.{ℕ, zero, suc, min, _+_, _^_, _≤_, _<_}
 use native.Mathlib.Nat.{lt-of-lt-of-le}
 use native.Mathlib.Numerals.{add-one}
 use native.Mathlib.Omega.{arith}
-use borrow.Author.Tests.{lt-ltb, leb-true}
+use borrow.Author.Tests.{lt-ltb, le-ltb, leb-true}
 use lib.Dec.{leb, ltb}
 use lib.Pow.{pow-mono}
 use lib.Seq.{drop-cons}
@@ -63,6 +63,19 @@ word-limit n w h = ⊎-elim small large (lt-or-ge n 16)
         lt-ltb w (2 ^ n) (lt-of-lt-of-le h (pow-mono {i = 16} {j = n} l))
         ∙ sym (lt-ltb w (2 ^ 16) h)
         ∙ ap (λ (k : ℕ). ltb w (2 ^ k)) (let e : 16 ≡ min n 16 = omega arith in e)
+
+-- words below 2^n make a narrow list
+pub narrow-of : (n : ℕ) (ws : List ℕ) → ((k : ℕ) → k < length ws → getD ws k 0 < 2 ^ n) → narrow n ws ≡ true
+unfolding narrow
+narrow-of n [] all = refl
+narrow-of n (w ∷ ws) all = rw (lt-ltb w (2 ^ n) (all 0 (omega arith)), narrow-of n ws (λ k l. all (suc k) (omega arith)))
+
+-- one word that isn't makes a list that isn't narrow
+pub wide-of : (n : ℕ) (ws : List ℕ) (k : ℕ) → k < length ws → 2 ^ n ≤ getD ws k 0 → narrow n ws ≡ false
+unfolding narrow
+wide-of n [] k h l = absurd (omega arith)
+wide-of n (w ∷ ws) zero h l = rw (le-ltb w (2 ^ n) l)
+wide-of n (w ∷ ws) (suc k) h l = rw (wide-of n ws k (omega arith) l, and-false)
 
 -- ---- acceptable reports
 

@@ -1,0 +1,40 @@
+-- The laws of a record's fields.
+use mathlib.Core.Path.{_≡_, refl}
+use mathlib.Core.Bool.{true, false}
+use mathlib.Core.List.{List}
+use Prim.Native.Nat.{ℕ, _+_, _^_, _≤_, _<_}
+use native.Mathlib.Omega.{arith}
+use lib.ListN.{length, getD}
+use Rattle.cube.proofs.Table.{length-table, getD-table, table-part}
+use Rattle.cube.specs.Table.{table}
+use Rattle.report.specs.Report.{narrow}
+use Rattle.report.proofs.Report.{narrow-of, wide-of}
+use Rattle.record.specs.Open.{nIn, statusIn, linkIn, linksIn}
+
+-- the status byte of node a
+abbrev pub statusAt : List ℕ → ℕ → ℕ
+statusAt bytes a = getD bytes (5 + a) 0
+
+-- the status bytes as a table
+pub status-table : (bytes : List ℕ) → 5 + 2 ^ nIn bytes ≤ length bytes → table (statusAt bytes) (2 ^ nIn bytes) ≡ statusIn bytes
+unfolding statusIn
+status-table bytes h = table-part bytes (statusAt bytes) 5 (2 ^ nIn bytes) h (λ i. refl)
+
+module _ (bytes : List ℕ) where
+  count-links : length (linksIn bytes) ≡ 2 ^ nIn bytes
+  unfolding linksIn
+  count-links = length-table (linkIn bytes) (2 ^ nIn bytes)
+
+  getD-links : (a : ℕ) → a < 2 ^ nIn bytes → getD (linksIn bytes) a 0 ≡ linkIn bytes a
+  unfolding linksIn
+  getD-links a h = getD-table (linkIn bytes) (2 ^ nIn bytes) a h
+
+  -- the link words of a record are narrow where each is
+  pub narrow-links : ((a : ℕ) → a < 2 ^ nIn bytes → linkIn bytes a < 2 ^ nIn bytes) → narrow (nIn bytes) (linksIn bytes) ≡ true
+  narrow-links all =
+      narrow-of (nIn bytes) (linksIn bytes)
+      (λ a h. let l : a < 2 ^ nIn bytes = omega (arith, count-links) in omega (arith, getD-links a l, all a l))
+
+  -- and are not where one isn't
+  pub wide-links : (a : ℕ) → a < 2 ^ nIn bytes → 2 ^ nIn bytes ≤ linkIn bytes a → narrow (nIn bytes) (linksIn bytes) ≡ false
+  wide-links a h l = wide-of (nIn bytes) (linksIn bytes) a (omega (arith, count-links)) (omega (arith, getD-links a h))
