@@ -18,7 +18,7 @@ fn working(byte: u8) -> bool {
 
 /// The number of nodes, if n and the three lengths are right.
 fn size_of(n: u32, status: &[u8], links: &[u16], vectors: &[u16]) -> Result<usize, u32> {
-    if n < 1 || n > 10 {
+    if !(1..=10).contains(&n) {
         return Err(1);
     }
     let size = 1 << n;
@@ -245,7 +245,7 @@ fn try_open(bytes: &[u8], status: &mut [u8], links: &mut [u16]) -> Result<u32, u
         return Err(10);
     }
     let n = *n as u32;
-    if n < 1 || n > 10 {
+    if !(1..=10).contains(&n) {
         return Err(1);
     }
     let size = 1 << n;

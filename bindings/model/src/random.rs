@@ -10,12 +10,12 @@ impl Random {
         let state = seed.wrapping_mul(0x9e37_79b9_7f4a_7c15) ^ 0x2545_f491_4f6c_dd1d;
         let mut random = Random(state.max(1));
         for _ in 0..8 {
-            random.next();
+            random.draw();
         }
         random
     }
 
-    pub fn next(&mut self) -> u64 {
+    pub fn draw(&mut self) -> u64 {
         self.0 ^= self.0 << 13;
         self.0 ^= self.0 >> 7;
         self.0 ^= self.0 << 17;
@@ -24,7 +24,7 @@ impl Random {
 
     /// A number below `limit`, which is at least 1.
     pub fn below(&mut self, limit: usize) -> usize {
-        ((self.next() >> 32) as usize) % limit
+        ((self.draw() >> 32) as usize) % limit
     }
 
     /// True once in `times` calls, on average.
@@ -33,11 +33,11 @@ impl Random {
     }
 
     pub fn word(&mut self) -> u16 {
-        (self.next() >> 40) as u16
+        (self.draw() >> 40) as u16
     }
 
     pub fn byte(&mut self) -> u8 {
-        (self.next() >> 40) as u8
+        (self.draw() >> 40) as u8
     }
 
     /// One of the values, each as likely as the next.

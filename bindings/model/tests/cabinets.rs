@@ -50,7 +50,8 @@ impl Cabinet {
         let answer = door.journey(self.n, &self.status, &self.links, &mut vectors, &picks, &mut path, s, d);
         let written = if answer.refusal == 0 { answer.hops as usize + 1 } else { 0 };
         assert!(path[written..].iter().all(|&word| word == 0xffff));
-        assert_eq!(vectors, if [0, 7, 8, 9].contains(&answer.refusal) { self.vectors(door) } else { vec![0xffff; 1 << self.n] });
+        let filled = [0, 7, 8, 9].contains(&answer.refusal);
+        assert_eq!(vectors, if filled { self.vectors(door) } else { vec![0xffff; 1 << self.n] });
         (answer, path[..written].to_vec())
     }
 }
@@ -201,7 +202,8 @@ fn refusals_of_open_in_their_order() {
 #[test]
 fn refusals_by_length() {
     for (name, door) in DOORS {
-        let fill = |n, lengths: [usize; 3]| door.fill(n, &vec![1; lengths[0]], &vec![0; lengths[1]], &mut vec![0; lengths[2]]);
+        let fill =
+            |n, lengths: [usize; 3]| door.fill(n, &vec![1; lengths[0]], &vec![0; lengths[1]], &mut vec![0; lengths[2]]);
         assert_eq!(fill(0, [1, 1, 1]), 1, "{name}");
         assert_eq!(fill(11, [2048; 3]), 1, "{name}");
         assert_eq!(fill(u32::MAX, [0; 3]), 1, "{name}");

@@ -47,7 +47,8 @@ fn on_chosen_cabinets_of_three_to_ten_dimensions() {
             let marked = size / (1 + round % 4) + 1;
             let links: Vec<u16> =
                 (0..size).map(|_| if random.once_in(marked) { 1 << random.below(n as usize) } else { 0 }).collect();
-            let pairs: Vec<(u16, u16)> = (0..8).map(|_| (random.below(size) as u16, random.below(size) as u16)).collect();
+            let pairs: Vec<(u16, u16)> =
+                (0..8).map(|_| (random.below(size) as u16, random.below(size) as u16)).collect();
             agree_everywhere(n, &status, &links, pairs.into_iter(), random.byte());
         }
     }
