@@ -31,12 +31,12 @@ pub fn class(byte: u8) -> u32 {
 
 /// 2^(i−1): what dimension i adds to a node number, and bit i to a word.
 fn weight(i: u32) -> usize {
-    2usize.pow(i - 1)
+    1 << (i - 1)
 }
 
 /// Bit i of a word.
 fn bit(word: usize, i: u32) -> bool {
-    word / weight(i) % 2 == 1
+    word >> (i - 1) & 1 == 1
 }
 
 /// How many of the dimensions 1 to n are in a relative address: its distance.

@@ -49,27 +49,31 @@ fn check_ends(size: usize, status: &[u8], source: usize, destination: usize) -> 
     }
 }
 
-/// 1 if the link of `node` along the dimension of weight 2^i is sound, else 0.
-fn sound(links: &[u16], node: usize, i: u32) -> u16 {
-    !(links[node & !(1 << i)] >> i) & 1
+/// Whether the link of `node` along the dimension of this weight is sound.
+fn sound(links: &[u16], node: usize, weight: usize) -> bool {
+    links[node & !weight] as usize & weight == 0
 }
 
 fn first_round(n: u32, status: &[u8], links: &[u16], vectors: &mut [u16]) {
     for node in 0..vectors.len() {
-        let all_sound = (0..n).fold(1, |all, i| all & sound(links, node, i));
-        vectors[node] = if working(status[node]) { all_sound } else { 0 };
+        let first = working(status[node]) && (0..n).all(|i| sound(links, node, 1 << i));
+        vectors[node] = first as u16;
     }
 }
 
-fn next_round(n: u32, k: u32, status: &[u8], links: &[u16], vectors: &mut [u16]) {
+/// Writes bit k, where `before` is the weight of bit k−1.
+fn next_round(n: u32, k: u32, before: u16, status: &[u8], links: &[u16], vectors: &mut [u16]) {
     for node in 0..vectors.len() {
         if working(status[node]) {
             let mut sum = 0;
             for i in 0..n {
-                sum += vectors[node ^ (1 << i)] >> (k - 2) & sound(links, node, i);
+                let weight = 1 << i;
+                if sound(links, node, weight) && vectors[node ^ weight] & before != 0 {
+                    sum += 1;
+                }
             }
-            if sum as u32 > n - k {
-                vectors[node] |= 1 << (k - 1);
+            if sum > n - k {
+                vectors[node] |= before << 1;
             }
         }
     }
@@ -78,7 +82,7 @@ fn next_round(n: u32, k: u32, status: &[u8], links: &[u16], vectors: &mut [u16])
 fn all_rounds(n: u32, status: &[u8], links: &[u16], vectors: &mut [u16]) {
     first_round(n, status, links, vectors);
     for k in 2..=n {
-        next_round(n, k, status, links, vectors);
+        next_round(n, k, 1 << (k - 2), status, links, vectors);
     }
 }
 
@@ -98,10 +102,12 @@ fn offered(links: &[u16], vectors: &[u16], node: usize, among: u32, k: u32) -> u
     let mut mask = 0;
     let mut left = among;
     while left != 0 {
-        let i = left.trailing_zeros();
+        let weight = 1 << left.trailing_zeros();
         left &= left - 1;
-        let own = if k == 0 { 1 } else { vectors[node ^ (1 << i)] >> (k - 1) & 1 };
-        mask |= ((own & sound(links, node, i)) as u32) << i;
+        let own = k == 0 || vectors[node ^ weight] >> (k - 1) & 1 == 1;
+        if own && sound(links, node, weight) {
+            mask |= weight as u32;
+        }
     }
     mask
 }
