@@ -11,8 +11,9 @@
  * A vector is a 16-bit word with bit k, 1 to n, at weight 2^(k-1). Where bit k of a node is 1, it
  * reaches every working node at distance k by a shortest path.
  *
- * Every slice is a pointer and the number of its elements. The pointer is never null, not even
- * with length 0, and is aligned for its elements. A slice that a job writes overlaps no other.
+ * Every slice is a pointer and the number of its elements, all of which have some value. The
+ * pointer is never null, not even with length 0, and is aligned for its elements. A slice that a
+ * job writes overlaps no other.
  * Any other input is answered: a job refuses what it cannot use, by the lowest number that
  * applies (deruvain_open has an order of its own). The refusals 1 to 6 and 10 change no memory.
  *

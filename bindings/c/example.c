@@ -29,9 +29,9 @@ int main(void)
 {
     uint8_t status[NODES];
     uint16_t links[NODES] = {0};
-    uint16_t vectors[NODES];
+    uint16_t vectors[NODES] = {0};
     const uint8_t picks[N + 1] = {0};
-    uint16_t path[N + 2];
+    uint16_t path[N + 2] = {0};
     const uint16_t source = 1, destination = 12;
 
     for (int node = 0; node < NODES; node++)

@@ -4,7 +4,7 @@ use crate::cases::{Job, Setting};
 use crate::Row;
 use std::fmt::Write;
 
-const LABELS: f64 = 190.0;
+const LABELS: f64 = 230.0;
 const BARS: f64 = 420.0;
 const LINE: f64 = 20.0;
 const TOP: f64 = 60.0;

@@ -6,6 +6,8 @@ use deruvain_model::{Answer, Door, Opened, Plain};
 #[derive(Clone, Copy, Debug, PartialEq, Eq)]
 pub enum Flaw {
     None,
+    DimensionWraps,
+    LengthsWrap,
     FifthSweepWorks,
     SilenceWorks,
     LostBoardsHaveBits,
@@ -31,10 +33,13 @@ pub enum Flaw {
     OpenSlicesBeforeLength,
     OpenWritesBeforeLinks,
     OpenTakesOtherKinds,
+    OpenLengthWraps,
 }
 
 impl Flaw {
-    pub const ALL: [Flaw; 25] = [
+    pub const ALL: [Flaw; 28] = [
+        Flaw::DimensionWraps,
+        Flaw::LengthsWrap,
         Flaw::FifthSweepWorks,
         Flaw::SilenceWorks,
         Flaw::LostBoardsHaveBits,
@@ -60,6 +65,7 @@ impl Flaw {
         Flaw::OpenSlicesBeforeLength,
         Flaw::OpenWritesBeforeLinks,
         Flaw::OpenTakesOtherKinds,
+        Flaw::OpenLengthWraps,
     ];
 }
 
@@ -150,7 +156,11 @@ impl Door for Flawed {
     }
 
     fn fill(&self, n: u32, status: &[u8], links: &[u16], vectors: &mut [u16]) -> u32 {
-        let (status, links) = (self.status(status), self.links(n, links));
+        let n = if self.has(Flaw::DimensionWraps) { n % 32 } else { n };
+        let (mut status, links) = (self.status(status), self.links(n, links));
+        if self.has(Flaw::LengthsWrap) {
+            status.truncate(status.len() % 65_536);
+        }
         let refusal = Plain.fill(n, &status, &links, vectors);
         match refusal {
             0 => self.rounds(n, &status, &links, vectors),
@@ -224,6 +234,9 @@ impl Door for Flawed {
         let mut bytes = bytes.to_vec();
         if self.has(Flaw::OpenTakesOtherKinds) && bytes.len() > 3 {
             bytes[2] = 1;
+        }
+        if self.has(Flaw::OpenLengthWraps) {
+            bytes.truncate(bytes.len() % 65_536);
         }
         let opened = Plain.open(&bytes, status, links);
         let short = |n: u8| status.len() < 1 << n || links.len() < 1 << n;

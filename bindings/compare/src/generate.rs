@@ -8,9 +8,9 @@ use deruvain_model::{Door, Model};
 /// Status bytes at the edges of the classes.
 const EDGES: [u8; 12] = [0, 1, 2, 3, 4, 5, 6, 128, 252, 253, 254, 255];
 
-/// Dimensions that no cube has.
+/// Dimensions that no cube has. Some would pass if they were cut to fewer bits.
 const ODD_DIMENSIONS: [u32; 17] =
-    [0, 0, 11, 11, 12, 13, 16, 17, 31, 32, 33, 63, 64, 255, 65_537, 0x8000_0001, u32::MAX];
+    [0, 0, 11, 11, 12, 13, 16, 17, 31, 33, 36, 67, 255, 260, 65_538, 0x8000_0001, u32::MAX];
 
 /// How often each dimension is tried: small cubes much, the largest ones seldom.
 const DIMENSIONS: [(u32, usize); 10] =
@@ -74,8 +74,8 @@ fn journey(random: &mut Random) -> Input {
 /// A report for a job, right in its lengths, and nothing else.
 fn report(random: &mut Random, job: Job) -> Input {
     let n = dimension(random);
-    let size = match n {
-        0..=11 => 1 << n,
+    let size = match n % 32 {
+        low @ 0..=11 => 1 << low,
         _ => 1 << random.below(6),
     };
     let memory = Memory { status: status(random, size), links: links(random, n, size), ..Memory::default() };
@@ -224,7 +224,7 @@ fn damaged_lengths(random: &mut Random, mut input: Input) -> Input {
 
 fn resize<T: Clone>(random: &mut Random, values: &mut Vec<T>, filler: T) {
     let size = values.len();
-    let other = random.below(2 * size + 2);
+    let other = if random.once_in(4) { size + 65_536 } else { random.below(2 * size + 2) };
     let length = random.of(&[0, 1, size / 2, size.saturating_sub(1), size + 1, 2 * size, other]);
     values.resize(length, filler);
 }
@@ -294,6 +294,7 @@ fn damage(random: &mut Random, bytes: &mut Vec<u8>) {
             bytes.truncate(random.below(6000));
             set_length(bytes);
         }
+        12 if random.once_in(20) => bytes.resize(bytes.len() + 65_536, 0),
         12 => *bytes = (0..random.below(40)).map(|_| random.byte()).collect(),
         13 => noise(random, bytes),
         14 => {

@@ -42,6 +42,17 @@ pub struct Input {
     pub second: u16,
 }
 
+impl Input {
+    /// The dimension asked for, if any.
+    pub fn dimension(&self) -> Option<u32> {
+        match self.job {
+            Job::Class => None,
+            Job::Open => self.memory.bytes.get(4).map(|&byte| byte as u32),
+            _ => Some(self.n),
+        }
+    }
+}
+
 #[derive(Clone, Debug, PartialEq, Eq)]
 pub struct Output {
     /// Fill and Class have a number only: Fill's is the refusal, Class's the kind. Open's n is the kind.
@@ -51,7 +62,8 @@ pub struct Output {
     pub margins_kept: bool,
 }
 
-const MARGIN: usize = 8;
+/// Odd, so that the slices lie at addresses that are no rounder than they need be.
+const MARGIN: usize = 7;
 const MARGIN_BYTE: u8 = 0xa5;
 const MARGIN_WORD: u16 = 0xa5c3;
 

@@ -61,6 +61,7 @@ fn report(door: &dyn Door, count: usize, seed: u64) -> bool {
     for job in Job::ALL {
         println!("{}", outcome.tallies[job as usize].line(job));
     }
+    println!("{}", outcome.dimensions_line());
     for job in Job::ALL {
         if let Some(input) = outcome.differing.iter().find(|input| input.job == job) {
             print!("\nthe smallest difference found in {}", explain(door, input));

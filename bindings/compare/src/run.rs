@@ -18,6 +18,8 @@ pub struct Tally {
 pub struct Outcome {
     pub inputs: usize,
     pub tallies: [Tally; 6],
+    /// How many inputs had each n; from 12 on in the last place.
+    pub dimensions: [usize; 13],
     /// The inputs that showed a difference.
     pub differing: Vec<Input>,
 }
@@ -26,13 +28,16 @@ pub struct Outcome {
 /// early after `enough` differences.
 pub fn compare(door: &dyn Door, count: usize, seed: u64, enough: usize) -> Outcome {
     let mut random = Random::new(seed);
-    let mut outcome = Outcome { inputs: 0, tallies: Default::default(), differing: Vec::new() };
+    let mut outcome = Outcome { inputs: 0, tallies: Default::default(), dimensions: [0; 13], differing: Vec::new() };
     while outcome.inputs < count && outcome.differing.len() < enough {
         let input = match outcome.inputs {
             byte @ 0..=255 => generate::class_of(byte as u8),
             _ => generate::input(&mut random),
         };
         outcome.inputs += 1;
+        if let Some(n) = input.dimension() {
+            outcome.dimensions[n.min(12) as usize] += 1;
+        }
         let expected = call(&Model, &input);
         outcome.tallies[input.job as usize].add(&expected.answer);
         if call(door, &input) != expected {
@@ -46,6 +51,14 @@ pub fn compare(door: &dyn Door, count: usize, seed: u64, enough: usize) -> Outco
 pub fn explain(door: &dyn Door, input: &Input) -> String {
     let input = smallest(input.clone(), &|input| call(door, input) != call(&Model, input));
     tell::difference(&input, &call(door, &input), &call(&Model, &input))
+}
+
+impl Outcome {
+    /// One line about the dimensions.
+    pub fn dimensions_line(&self) -> String {
+        let counts: Vec<String> = (0..12).map(|n| format!("{n}: {}", self.dimensions[n])).collect();
+        format!("n       {}, over 11: {}", counts.join(", "), self.dimensions[12])
+    }
 }
 
 impl Tally {

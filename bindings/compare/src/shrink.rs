@@ -100,10 +100,13 @@ impl Shrinker<'_> {
         let mut run = slice(&mut self.best.memory).len();
         while run > 0 {
             for from in (0..slice(&mut self.best.memory).len()).step_by(run) {
-                self.keep_if_differs(|next| {
-                    let values = slice(&mut next.memory).iter_mut().skip(from).take(run);
-                    values.filter(|value| !plain.contains(value)).for_each(|value| *value = plain[plain.len() - 1]);
-                });
+                let odd = |value: &T| !plain.contains(value);
+                if slice(&mut self.best.memory).iter().skip(from).take(run).any(odd) {
+                    self.keep_if_differs(|next| {
+                        let values = slice(&mut next.memory).iter_mut().skip(from).take(run);
+                        values.filter(|value| odd(value)).for_each(|value| *value = plain[plain.len() - 1]);
+                    });
+                }
             }
             run /= 2;
         }

@@ -50,8 +50,14 @@ fn call(input: &Input) -> String {
     text
 }
 
+/// The bytes, with the zeros at the end only counted.
 fn hex(bytes: &[u8]) -> String {
-    bytes.iter().map(|byte| format!("{byte:02x}")).collect::<Vec<_>>().join(" ")
+    let said = bytes.iter().rposition(|&byte| byte != 0).map_or(0, |last| last + 1);
+    let mut words: Vec<String> = bytes[..said].iter().map(|byte| format!("{byte:02x}")).collect();
+    if said < bytes.len() {
+        words.push(format!("and {} times 00", bytes.len() - said));
+    }
+    words.join(" ")
 }
 
 /// A slice by its length, its plain value and the places that have another.
