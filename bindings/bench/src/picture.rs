@@ -63,8 +63,10 @@ fn bar(text: &mut String, row: &Row, y: f64, scale: f64) {
     let (label, end, after) = (label(&row.setting), LABELS - 8.0, LABELS + length + 6.0);
     let halo = r#"paint-order="stroke" stroke="white" stroke-width="4""#;
     let _ = writeln!(text, r#"<text x="{end:.0}" y="{base:.0}" text-anchor="end">{label}</text>"#);
-    let _ =
-        writeln!(text, r#"<rect x="{LABELS}" y="{top:.0}" width="{length:.1}" height="14" fill="rgb(110,150,200)"/>"#);
+    let _ = writeln!(
+        text,
+        r#"<rect x="{LABELS}" y="{top:.0}" width="{length:.1}" height="14" fill="rgb(70,120,190)" fill-opacity="0.6"/>"#
+    );
     let _ = writeln!(text, r#"<text x="{after:.1}" y="{base:.0}" {halo}>{ratio:.2}</text>"#);
 }
 
