@@ -70,7 +70,7 @@ unfolding refusal dimension sized narrow within works
 journeyRefusal n status links vecs picks path s d =
     refusal
     ((not (dimension n), 1)
-    ∷ (not (sized n status && (sized n links && (sized n vecs && (leb (n + 1) (length picks) && leb (n + 2) (length path))))), 2)
+    ∷ (not ((sized n status && (sized n links && sized n vecs)) && (leb (n + 1) (length picks) && leb (n + 2) (length path))), 2)
     ∷ (not (narrow n links), 3)
     ∷ (not (within n s && within n d), 4)
     ∷ (not (works status s), 5)
