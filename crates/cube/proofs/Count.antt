@@ -275,6 +275,7 @@ ranked-found p r (suc n) i h e k = ⊎-elim (λ (l : i < n). lower l (ranked-fou
   where
     top : n ≤ i → cond (p (suc n) && eqb (count p n) r) (suc n) (ranked p r n) ≡ suc i
     top l = let s : i ≡ n = omega arith in rw (sym s, e, eq-eqb (count p i) r k)
+
     lower : i < n → ranked p r n ≡ suc i → cond (p (suc n) && eqb (count p n) r) (suc n) (ranked p r n) ≡ suc i
     lower l ih = rw (ne-eqb (count p n) r (λ (w : count p n ≡ r). omega (arith, count-mono p (suc i) n l, ap one e)), and-false) ih
 

@@ -3,11 +3,11 @@ use mathlib.Core.Path.{_≡_, refl, ap, sym, _∙_}
 use mathlib.Core.Bool.{Bool, true, false, cond, true≢false}
 use mathlib.Core.Logic.{inl, inr}
 use mathlib.Core.List.{List, [], _∷_, _++_, append-nil}
-use Prim.Native.Nat.{ℕ, suc, _+_, _-_, _≤_, _<_}
-use native.Mathlib.Numerals.{add-one}
+use Prim.Native.Nat.{ℕ, zero, suc, _+_, _-_, _≤_, _<_}
+use native.Mathlib.Numerals.{add-one, one-add}
 use native.Mathlib.Omega.{arith}
-use lib.ListN.{getD, take}
-use lib.Seq.{take-suc-set}
+use lib.ListN.{length, getD, take, drop, set}
+use lib.Seq.{take-suc-set, paste}
 use types.Run.{OneOf}
 use denote.Enum.Declared.{tagOf}
 use Rattle.cube.specs.Bits.{bit, flip}
@@ -18,7 +18,7 @@ use Rattle.routing.specs.declared.Step.{Step}
 use Rattle.routing.specs.declared.Step.the-variants.{Arrived, Offered, Refused}
 use Rattle.routing.specs.Rules.{Next, arrived, onward}
 use Rattle.routing.specs.Hop.{said, hop}
-use Rattle.journey.specs.Journey.{taken, via, follow, hops}
+use Rattle.journey.specs.Journey.{taken, via, follow, hops, leave}
 use Rattle.journey.specs.declared.Walk.{Walk}
 use Rattle.journey.specs.Walk.{came, stopped, Crossed, Followed, through}
 
@@ -56,6 +56,15 @@ pub through-via : (bs : List ℕ) (b : ℕ) (x : Reply (List ℕ)) → through b
 unfolding through
 through-via [] b x = refl
 through-via (a ∷ bs) b x = ap (via a) (through-via bs b x)
+
+-- ---- the path
+
+-- the path with its source and its boards written
+pub path-end : (path : List ℕ) (s : ℕ) (bs : List ℕ) (k : ℕ) → 0 < length path
+    → paste (set path 0 s) 1 bs k ≡ s ∷ take k bs ++ drop (k + 1) path
+path-end [] s bs k h = absurd (omega arith)
+path-end (x ∷ path) s bs k h =
+    ap (λ (m : ℕ). s ∷ take k bs ++ drop m (s ∷ path)) (one-add k) ∙ ap (λ (m : ℕ). s ∷ take k bs ++ drop m (x ∷ path)) (sym (add-one k))
 
 -- ---- the walk after j of its hops
 
@@ -97,7 +106,8 @@ module _ (n : ℕ) (status links table picks : List ℕ) (promised : ℕ) where
           record {
             made = g .made ∙ ap (λ (x : ℕ). x + 1) (u .made);
             going = g .refused;
-            rest = rw (g .node, g .nav, g .boards, u .made, add-one, take-suc-set (w .boards) j _ (omega (arith, g .long))) (e ∙ through-via (take j (w .boards)) _ _) }
+            rest = rw (g .node, g .nav, g .boards, u .made, add-one, take-suc-set (w .boards) j _ (omega (arith, g .long))) (e ∙ through-via (take j (w .boards)) _ _);
+          }
 
   -- a walk that is over
   pub under-over : (whole : Reply (List ℕ)) (j : ℕ) (w r : Walk) → j < promised → Under whole j w
@@ -106,11 +116,13 @@ module _ (n : ℕ) (status links table picks : List ℕ) (promised : ℕ) where
   under-over whole j w r h u f o = go (answerTo w) (step whole j w h u) f
     where
       go : (x : Reply Next) → whole ≡ through (take j (w .boards)) (follow x (after w j)) → Followed n w x (getD picks j 0) r
-        → (came r ≡ whole) × (r .made ≤ promised)
+          → (came r ≡ whole) × (r .made ≤ promised)
       go (refused m) e g = (g .2 ∙ sym (e ∙ through-refused (take j (w .boards)) m), omega (arith, g .1, u .made))
-      go (accepted arrived) e g =
-          (g .2 ∙ ap (λ (k : ℕ). accepted (take k (w .boards))) (u .made)
-          ∙ sym (e ∙ through-accepted (take j (w .boards)) [] ∙ ap accepted (append-nil (take j (w .boards)))), omega (arith, g .1, u .made))
+      go (accepted arrived) e g = (
+        g .2 ∙ ap (λ (k : ℕ). accepted (take k (w .boards))) (u .made)
+            ∙ sym (e ∙ through-accepted (take j (w .boards)) [] ∙ ap accepted (append-nil (take j (w .boards)))),
+        omega (arith, g .1, u .made),
+      )
       go (accepted (onward mask)) e g = absurd (true≢false (sym o ∙ g .over))
 
   -- a walk that has made its hops
@@ -123,3 +135,20 @@ module _ (n : ℕ) (status links table picks : List ℕ) (promised : ℕ) where
       ∙ ap (λ (k : ℕ). through (take j (w .boards)) (hops n status links table picks k j (w .node .0) (w .nav .0))) (let e : promised - j ≡ 0 = omega arith in e)
       ∙ through-accepted (take j (w .boards)) []
       ∙ ap accepted (append-nil (take j (w .boards)))))
+
+  -- the walk after its first hop
+  pub leave-first : (s nav mask : ℕ) (w r : Walk) → 0 < promised → w .node .0 ≡ s → w .nav .0 ≡ nav → w .made ≡ 0
+      → Crossed w (taken n mask (getD picks 0 0)) r
+      → through (take 1 (r .boards)) (hops n status links table picks (promised - 1) 1 (r .node .0) (r .nav .0)) ≡ leave n status links table picks s nav mask promised
+  unfolding through leave
+  leave-first s nav mask w r h es en em x = whole promised h
+    where
+      b : ℕ
+      b = flip s (taken n mask (getD picks 0 0))
+
+      whole : (p : ℕ) → 0 < p
+          → through (take 1 (r .boards)) (hops n status links table picks (p - 1) 1 (r .node .0) (r .nav .0)) ≡ leave n status links table picks s nav mask p
+      whole zero l = absurd (omega arith)
+      whole (suc k) l =
+          let e : suc k - 1 ≡ k = omega arith in
+          rw (x .node, x .nav, x .boards, es, en, em, e, take-suc-set (w .boards) 0 b (omega (arith, x .long)))

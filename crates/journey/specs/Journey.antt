@@ -77,12 +77,17 @@ journeyRefusal n status links vecs picks path s d =
     ∷ (not (works status d), 6)
     ∷ [])
 
+-- the boards after the source, by an acceptance
+unfoldable pub leaving : ℕ → List ℕ → List ℕ → List ℕ → List ℕ → ℕ → ℕ → Choice → Reply (List ℕ)
+unfolding leave
+leaving n status links table picks s d c = leave n status links table picks s (bitXor s d) (maskOf c) (hopsOf c)
+
 -- the route over Fill's vectors
 unfoldable pub route : ℕ → List ℕ → List ℕ → List ℕ → ℕ → ℕ → Reply Route
-unfolding depart leave decide cube vectors
+unfolding depart leaving decide cube vectors
 route n status links picks s d =
     let table = vectors (cube n status links) in
-    depart (decide n status links table s d) (λ c. leave n status links table picks s (bitXor s d) (maskOf c) (hopsOf c))
+    depart (decide n status links table s d) (leaving n status links table picks s d)
 
 -- the route, or the refusal
 unfoldable pub journey : ℕ → List ℕ → List ℕ → List ℕ → List ℕ → List ℕ → ℕ → ℕ → Reply Route

@@ -21,7 +21,7 @@ abbrev μ-loop : tie.MeasureT-loop
 μ-loop n status links vectors picks promised w₀ j₀ w j = promised - j
 
 loop-holds : tie.Need-loop-holds Inv-loop μ-loop
-loop-holds c = 
+loop-holds c =
     let p = c .before .before .before .before .pre in
     (omega arith, p .3, record { made = p .4; going = p .5; rest = refl })
 
@@ -35,7 +35,7 @@ follow-requires : tie.Need-follow-requires Inv-loop μ-loop
 follow-requires c κs = (c .before .before .before .before .before .before .before .before .before .before .pre .0, omega (arith, c .before .before .before .before .before .before .before .before .before .before .pre .1, c .before .before .before .before .before .loop .inv .2 .made))
 
 returns : tie.Need-returns Inv-loop μ-loop
-returns c = 
+returns c =
     let a = c .before .before .before .before .before .before .before .before .before .before .before .before .args in
     let l = c .before .before .before .before .before .before .before .loop in
     under-over (a .n) (now (a .status)) (now (a .links)) (now (a .vectors)) (now (a .picks)) (a .promised) (through (take 1 (a .first .boards)) (hops (a .n) (now (a .status)) (now (a .links)) (now (a .vectors)) (now (a .picks)) (a .promised - 1) 1 (a .first .node .0) (a .first .nav .0))) (l .j) (l .w) (c .before .follow .result) (c .before .before .before .before .before .before .loop-test .taken) (l .inv .2)
@@ -48,15 +48,17 @@ loop-less : tie.Need-loop-less Inv-loop μ-loop
 loop-less c = search needs
 
 loop-again : tie.Need-loop-again Inv-loop μ-loop
-loop-again c = 
+loop-again c =
     let a = c .before .before .before .before .before .before .before .before .before .before .before .before .args in
-    let l = c .before .before .before .before .before .before .before .loop in
-    (omega arith, omega arith,
-    under-next (a .n) (now (a .status)) (now (a .links)) (now (a .vectors)) (now (a .picks)) (a .promised) (through (take 1 (a .first .boards)) (hops (a .n) (now (a .status)) (now (a .links)) (now (a .vectors)) (now (a .picks)) (a .promised - 1) 1 (a .first .node .0) (a .first .nav .0))) (l .j) (l .w) (c .before .follow .result) (c .before .before .before .before .before .before .loop-test .taken) (c .before .before .before .before .before .before .before .before .before .before .before .before .pre .1) (l .inv .2)
-    (subst (λ (x : Reply Next). Followed (a .n) (l .w) x (getD (now (a .picks)) (l .j) 0) (c .before .follow .result)) (c .before .before .before .hop .ensures) (c .before .follow .ensures)) (c .if1 .left))
+    let l = c .before .before .before .before .before .before .before .loop in (
+      omega arith,
+      omega arith,
+      under-next (a .n) (now (a .status)) (now (a .links)) (now (a .vectors)) (now (a .picks)) (a .promised) (through (take 1 (a .first .boards)) (hops (a .n) (now (a .status)) (now (a .links)) (now (a .vectors)) (now (a .picks)) (a .promised - 1) 1 (a .first .node .0) (a .first .nav .0))) (l .j) (l .w) (c .before .follow .result) (c .before .before .before .before .before .before .loop-test .taken) (c .before .before .before .before .before .before .before .before .before .before .before .before .pre .1) (l .inv .2)
+          (subst (λ (x : Reply Next). Followed (a .n) (l .w) x (getD (now (a .picks)) (l .j) 0) (c .before .follow .result)) (c .before .before .before .hop .ensures) (c .before .follow .ensures)) (c .if1 .left),
+    )
 
 returns-2 : tie.Need-returns-2 Inv-loop μ-loop
-returns-2 c = 
+returns-2 c =
     let a = c .before .before .before .before .before .before .args in
     let l = c .before .loop in
     (under-end (a .n) (now (a .status)) (now (a .links)) (now (a .vectors)) (now (a .picks)) (a .promised) (through (take 1 (a .first .boards)) (hops (a .n) (now (a .status)) (now (a .links)) (now (a .vectors)) (now (a .picks)) (a .promised - 1) 1 (a .first .node .0) (a .first .nav .0))) (l .j) (l .w) (omega arith) (l .inv .2), omega (arith, l .inv .2 .made))

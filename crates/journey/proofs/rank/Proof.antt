@@ -38,7 +38,7 @@ add-result : tie.Need-add-result Inv-loop μ-loop
 add-result c = search needs
 
 returns : tie.Need-returns Inv-loop μ-loop
-returns c = 
+returns c =
     let a = c .before .before .before .args in
     let l = c .before .before .loop in
     let set : a .mask / 2 ^ (l .i) % 2 ≡ 1 = omega arith in
@@ -56,13 +56,13 @@ loop-less : tie.Need-loop-less Inv-loop μ-loop
 loop-less c = search needs
 
 loop-again : tie.Need-loop-again Inv-loop μ-loop
-loop-again c = 
+loop-again c =
     let a = c .before .before .before .args in
     let l = c .before .before .loop in
     (omega arith, ap₂ _+_ (l .inv .1) (one-bit-next (a .mask) (l .i)) ∙ sym (count-step (bit (a .mask)) (l .i)), omega arith)
 
 returns-2 : tie.Need-returns-2 Inv-loop μ-loop
-returns-2 c = 
+returns-2 c =
     let a = c .before .before .args in
     let e : c .before .loop .i ≡ a .n = omega arith in
     sym (ranked-none (bit (a .mask)) (a .r) (a .n) (le-trans (le-of-eq (sym (c .before .loop .inv .1 ∙ ap (count (bit (a .mask))) e))) (c .before .loop .inv .2)))

@@ -15,7 +15,7 @@ weight-requires c κs = search needs
 
 returns : tie.Need-returns
 unfolding taken
-returns c = 
+returns c =
     let a = c .before .before .args in
     sym (ranked-none (bit (a .mask)) _ (a .n)
     (omega (arith, count-mono (bit (a .mask)) (a .n) 16 (omega arith), weight-below 16 (a .mask) (c .before .before .fits .mask .fits), c .before .weight .ensures)))
@@ -28,7 +28,7 @@ rank-requires c κs = search needs
 
 returns-2 : tie.Need-returns-2
 unfolding taken
-returns-2 c = 
+returns-2 c =
     let a = c .before .before .before .args in
     c .rank .ensures ∙ ap (λ (w : ℕ). ranked (bit (a .mask)) (a .pick % w) (a .n)) (c .before .before .weight .ensures)
 

@@ -22,7 +22,7 @@ add-t7 : tie.Need-add-t7
 add-t7 c = search needs
 
 returns : tie.Need-returns
-returns c = 
+returns c =
     let s = c .before .before .before in
     let x = s .args .self in
     let e = c .before .before .neighbour .ensures ∙ crossed-flip (x .node .0) (s .args .i) (s .pre .0) in
@@ -33,7 +33,8 @@ returns c =
       boards = ap (set (x .boards) (x .made)) e;
       made = refl;
       over = refl;
-      refused = refl }
+      refused = refl;
+    }
 
 pub cross-spec : {M : Type 1} → statement M
 cross-spec =

@@ -23,12 +23,12 @@ taken-requires : tie.Need-taken-requires
 taken-requires c κs = search needs
 
 cross-requires : tie.Need-cross-requires
-cross-requires c κs = 
+cross-requires c κs =
     let s = c .before .before .before .before in
     (le-trans (le-of-eq (c .taken .ensures)) (le-trans (taken-le (s .args .n) _ (s .args .pick)) (s .pre .0)), s .pre .1)
 
 returns-2 : tie.Need-returns-2
-returns-2 c = 
+returns-2 c =
     let a = c .before .before .before .before .before .args in
     subst (λ (x : Step). Followed (a .n) (a .self) (said x) (a .pick) (c .cross .result)) (sym (c .before .before .before .answer .given .1))
     (subst (λ (i : ℕ). Crossed (a .self) i (c .cross .result)) (c .before .taken .ensures) (c .cross .ensures))

@@ -17,11 +17,13 @@ is-refusal-requires : tie.Need-is-refusal-requires
 is-refusal-requires c κs = search needs
 
 returns : tie.Need-returns
-returns c = 
-    let a = c .before .before .args in
-    (refl, refl,
-    ap₂ (λ (t : Bool) (m : ℕ). cond t (refused m) (accepted (take (a .self .made) (a .self .boards)))) (c .is-refusal .ensures) (c .before .number .ensures)
-    ∙ stops (said (a .answer)) (take (a .self .made) (a .self .boards)))
+returns c =
+    let a = c .before .before .args in (
+      refl,
+      refl,
+      ap₂ (λ (t : Bool) (m : ℕ). cond t (refused m) (accepted (take (a .self .made) (a .self .boards)))) (c .is-refusal .ensures) (c .before .number .ensures)
+          ∙ stops (said (a .answer)) (take (a .self .made) (a .self .boards)),
+    )
 
 pub stop-spec : {M : Type 1} → statement M
 stop-spec = tie.close (tie.spec number-requires is-refusal-requires returns)
