@@ -1,10 +1,12 @@
 // The door for C and Rust: every job on numbers and slices alone.
-use cube::{Nav, Node};
+use cube::Nav;
+use cube::Node;
 use journey::Trip;
 use record::Opened;
 use report::Class;
-use routing::{Decision, Kind, Step};
-
+use routing::Decision;
+use routing::Kind;
+use routing::Step;
 ghost use mathlib.Core.Path.{_≡_};
 ghost use Rattle.cube.specs.Reply.{numberOf};
 ghost use Rattle.report.specs.Class.{classOf};
@@ -111,7 +113,14 @@ fn of_decision(decision: Decision) -> Answer
 
 // Decide: kind 0 home, 1 assured, 2 lent, 3 detour.
 #[no_mangle]
-pub extern "C" fn deruvain_decide(n: u32, status: &[u8], links: &[u16], vectors: &[u16], source: u16, destination: u16) -> Answer
+pub extern "C" fn deruvain_decide(
+    n: u32,
+    status: &[u8],
+    links: &[u16],
+    vectors: &[u16],
+    source: u16,
+    destination: u16,
+) -> Answer
     ensures { λ r. ⌜ Decided r (deciding.decide n (now (status .entry)) (now (links .entry)) (now (vectors .entry)) source destination) ⌝ }
 {
     of_decision(routing::decide(n, status, links, vectors, Node(source), Node(destination)))
@@ -135,7 +144,14 @@ fn of_step(step: Step) -> Answer
 
 // Hop: kind 0 arrived, 1 offered.
 #[no_mangle]
-pub extern "C" fn deruvain_hop(n: u32, status: &[u8], links: &[u16], vectors: &[u16], node: u16, relative: u16) -> Answer
+pub extern "C" fn deruvain_hop(
+    n: u32,
+    status: &[u8],
+    links: &[u16],
+    vectors: &[u16],
+    node: u16,
+    relative: u16,
+) -> Answer
     ensures { λ r. ⌜ Hopped r (hopping.hop n (now (status .entry)) (now (links .entry)) (now (vectors .entry)) node relative) ⌝ }
 {
     of_step(routing::hop(n, status, links, vectors, Node(node), Nav(relative)))
@@ -153,12 +169,30 @@ fn of_trip(trip: Trip) -> Answer
 
 // Journey: the source's kind and mask, and the hops made.
 #[no_mangle]
-pub extern "C" fn deruvain_journey(n: u32, status: &[u8], links: &[u16], vectors: &mut [u16], picks: &[u8], path: &mut [u16], source: u16, destination: u16) -> Answer
+pub extern "C" fn deruvain_journey(
+    n: u32,
+    status: &[u8],
+    links: &[u16],
+    vectors: &mut [u16],
+    picks: &[u8],
+    path: &mut [u16],
+    source: u16,
+    destination: u16,
+) -> Answer
     ensures answer { λ r. ⌜ Travelled r (travelling.arrival (travelling.journey n (now (status .entry)) (now (links .entry)) (now (vectors .entry)) (now (picks .entry)) (now (path .entry)) source destination)) ⌝ }
     ensures filled { λ r. ⌜ now (vectors .exit) ≡ travelling.vectorsAfter n (now (status .entry)) (now (links .entry)) (now (vectors .entry)) (now (picks .entry)) (now (path .entry)) source destination ⌝ }
     ensures walked { λ r. ⌜ now (path .exit) ≡ travelling.pathAfter n (now (status .entry)) (now (links .entry)) (now (vectors .entry)) (now (picks .entry)) (now (path .entry)) source destination ⌝ }
 {
-    of_trip(journey::journey(n, status, links, vectors, picks, path, Node(source), Node(destination)))
+    of_trip(journey::journey(
+        n,
+        status,
+        links,
+        vectors,
+        picks,
+        path,
+        Node(source),
+        Node(destination),
+    ))
 }
 
 // Open's answer as numbers.
