@@ -120,6 +120,10 @@ pub flip-shift : (a i : ℕ) → 1 ≤ i → i ≤ 16 → bitXor a (1 * 2 ^ (i -
 unfolding flip
 flip-shift a i l h = ap (bitXor a) (place-shift i l h)
 
+pub flip-next : (a i w : ℕ) → i < w → bitXor a (1 * 2 ^ i % 2 ^ w) ≡ flip a (suc i)
+unfolding flip place
+flip-next a i w h = ap (bitXor a) (pow-shift i w h)
+
 -- a bit as the machine tests it
 pub bit-shift : (x i : ℕ) → 1 ≤ i → eqb (x / 2 ^ (i - 1) % 2) 1 ≡ bit x i
 unfolding bit

@@ -41,6 +41,13 @@ one-bit x i l = sym (one-eqb (x / 2 ^ (i - 1) % 2) (omega arith)) ∙ ap one (bi
 pub one-bit-next : (x i : ℕ) → x / 2 ^ i % 2 ≡ one (bit x (i + 1))
 one-bit-next x i = ap (λ (j : ℕ). x / 2 ^ j % 2) (let e : i ≡ i + 1 - 1 = omega arith in e) ∙ one-bit x (i + 1) (omega arith)
 
+-- a bit, but 0 where another is set
+pub one-unless : (m b : Bool) → (1 - one m) * one b ≡ one (not m && b)
+one-unless true true = refl
+one-unless true false = refl
+one-unless false true = refl
+one-unless false false = refl
+
 eqb-one : (b : Bool) → eqb (one b % 2) 1 ≡ b
 eqb-one true = refl
 eqb-one false = refl
