@@ -9,6 +9,7 @@ ghost use lib.Bits.{bitXor};
 ghost use lib.Dec.{eqb};
 ghost use Rattle.cube.specs.Bits.{bit, weight};
 ghost use Rattle.cube.specs.Count.{one};
+ghost use Rattle.cube.specs.Reply.{OneAnswer};
 ghost use Rattle.report.specs.Report.{cut, cube};
 ghost use Rattle.vectors.specs.Safety.{registered};
 ghost use Rattle.vectors.specs.Held.{own};
@@ -196,3 +197,13 @@ pub fn hop(n: u32, status: &[u8], links: &[u16], vectors: &[u16], a: Node, nav: 
     }
     at_node(n, links, vectors, a, nav)
 }
+
+// For every input the contract of `decide` allows one answer.
+pub fn one_decision()
+    ensures { λ r. ⌜ OneAnswer deciding.said ⌝ }
+{}
+
+// For every input the contract of `hop` allows one answer.
+pub fn one_step()
+    ensures { λ r. ⌜ OneAnswer hopping.said ⌝ }
+{}
