@@ -180,11 +180,11 @@ fn at_node(n: u32, links: &[u16], vectors: &[u16], a: Node, nav: Nav) -> Step
     requires { ⌜ n ≤ 10 ⌝ }
     ensures { λ r. ⌜ ((status : List ℕ) → hopping.said r ≡ atNode (cube n status (now (links .entry))) (own (now (vectors .entry))) (a .0) (nav .0) (weight (nav .0))) ⌝ }
 {
-    let h = nav.weight();
-    if h == 0 {
+    let away = nav.weight();
+    if away == 0 {
         return Step::Arrived;
     }
-    proceed(mask(n, links, vectors, nav.0, a, h - 1))
+    proceed(mask(n, links, vectors, nav.0, a, away - 1))
 }
 
 // Hop: the hop at a later node a with a relative address, over lent vectors.
