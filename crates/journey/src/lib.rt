@@ -13,7 +13,7 @@ ghost use lib.Dec.{leb};
 ghost use lib.ListN.{length, take, drop};
 ghost use Rattle.cube.specs.Bits.{bit};
 ghost use Rattle.cube.specs.Count.{ranked};
-ghost use Rattle.cube.specs.Reply.{accepted, isRefusal};
+ghost use Rattle.cube.specs.Reply.{accepted, isRefusal, OneAnswer};
 ghost use Rattle.routing.specs.Hop as hopping;
 ghost use Rattle.vectors.specs.Fill as filling;
 ghost use Rattle.routing.specs.Decide as deciding;
@@ -358,4 +358,9 @@ pub fn journey_walks()
 // It ends at the destination, after the hops promised.
 pub fn journey_arrives()
     ensures { λ r. ⌜ JourneyArrives ⌝ }
+{}
+
+// For every input the contract of `journey` allows one answer.
+pub fn one_trip()
+    ensures { λ r. ⌜ OneAnswer said ⌝ }
 {}
