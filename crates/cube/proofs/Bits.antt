@@ -1,6 +1,6 @@
 -- The laws of single bits: of an exclusive or, of a remainder, of a power, of a neighbour.
 use mathlib.Core.Path.{_≡_, refl, ap, ap₂, sym, _∙_, subst}
-use mathlib.Core.Bool.{Bool, true, false, not, xor}
+use mathlib.Core.Bool.{Bool, true, false, not, xor, false≢true}
 use Prim.Native.Nat.{ℕ, zero, suc, _+_, _*_, _-_, _/_, _%_, _^_, _≤_, _<_}
 use native.Mathlib.Nat.{div-eq-of-lt, mod-eq-of-lt, lt-of-lt-of-le, div-self, one-mul, mul-mod-left}
 use native.Mathlib.Numerals.{add-one}
@@ -59,6 +59,11 @@ pub bit-zero : (i : ℕ) → bit 0 i ≡ false
 unfolding bit
 bit-zero zero = refl
 bit-zero (suc i) = ap (λ (d : ℕ). eqb (d % 2) 1) (div-eq-of-lt (pow-pos i))
+
+-- a number with a bit set is not 0
+pub bit-pos : (x i : ℕ) → bit x i ≡ true → 0 < x
+bit-pos zero i e = absurd (false≢true (sym (bit-zero i) ∙ e))
+bit-pos (suc x) i e = omega arith
 
 pub bit-place : (i : ℕ) → bit (place (suc i)) (suc i) ≡ true
 unfolding bit place

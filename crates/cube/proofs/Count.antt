@@ -1,4 +1,4 @@
--- The laws of `pack`, `count`, `any` and `weight`. "For i from 1 to n" is said of `suc i` with i below n.
+-- The laws of `pack`, `count`, `any`, `ranked` and `weight`. "For i from 1 to n" is said of `suc i` with i below n.
 use mathlib.Core.Path.{_≡_, refl, ap, ap₂, sym, _∙_}
 use mathlib.Core.Bool.{Bool, true, false, not, xor, cond, _&&_, _||_, and-false, or-true, or-false, true≢false, false≢true}
 use mathlib.Core.Logic.{⊎-elim}
@@ -6,7 +6,7 @@ use Prim.Native.Nat.{ℕ, zero, suc, _+_, _*_, _-_, _/_, _%_, _^_, _≤_, _<_}
 use native.Mathlib.Nat.{mod-eq-of-lt, mod-one, mod-lt, le-trans, le-of-eq, lt-of-le-of-lt, lt-of-lt-of-le, add-zero, eq-zero-or-pos, pow-succ'}
 use native.Mathlib.Numerals.{add-one, one-add}
 use native.Mathlib.Omega.{arith}
-use borrow.Author.Tests.{lt-ltb, eq-eqb, ne-eqb}
+use borrow.Author.Tests.{lt-ltb, eq-eqb, ne-eqb, eqb-false}
 use lib.Bits.{bitXor, xor-lt}
 use lib.Dec.{eqb, ltb}
 use lib.Count.{ones, ones-cat}
@@ -296,6 +296,18 @@ ranked-none p r (suc n) h = go (p (suc n)) refl (ranked-none p r n (omega arith)
     go true e ih = rw (ne-eqb (count p n) r (λ (w : count p n ≡ r). omega (arith, ap one e))) ih
     go false e ih = ih
 
+-- with more than r of them it is one of them
+pub ranked-in : (p : ℕ → Bool) (r n : ℕ) → r < count p n → p (ranked p r n) ≡ true
+unfolding ranked count
+ranked-in p r zero h = absurd (omega arith)
+ranked-in p r (suc n) h = go (p (suc n)) (eqb (count p n) r) refl refl (ranked-in p r n)
+  where
+    go : (b t : Bool) → p (suc n) ≡ b → eqb (count p n) r ≡ t → (r < count p n → p (ranked p r n) ≡ true)
+        → p (cond (b && t) (suc n) (ranked p r n)) ≡ true
+    go true true e k rest = e
+    go true false e k rest = rest (omega (arith, ap one e, eqb-false (count p n) r k))
+    go false t e k rest = rest (omega (arith, ap one e))
+
 -- ---- weight
 
 ones-digit : (d : ℕ) → d < 2 → ones d ≡ one (eqb d 1)
@@ -339,6 +351,9 @@ weight-on n x i hx hi e =
 -- only 0 weighs nothing
 pub weight-zero : (n x : ℕ) → x < 2 ^ n → weight x ≡ 0 → x ≡ 0
 weight-zero n x hx e = bit-ext x 0 n hx (pow-pos n) (λ i l. count-none (bit x) n (sym (weight-below n x hx) ∙ e) i l ∙ sym (bit-zero (suc i)))
+
+pub weight-pos : (n x : ℕ) → x < 2 ^ n → 0 < x → 0 < weight x
+weight-pos n x hx h = ⊎-elim (λ (z : weight x ≡ 0). absurd (omega (arith, weight-zero n x hx z))) (λ l. l) (eq-zero-or-pos (weight x))
 
 -- ---- relative addresses
 

@@ -6,7 +6,7 @@ ghost use mathlib.Core.Bool.{_&&_};
 ghost use lib.ListN.{length, replicate};
 ghost use Rattle.cube.specs.Bits.{bit, flip};
 ghost use Rattle.cube.specs.Count.{one, count};
-ghost use Rattle.cube.specs.Reply.{numberOf};
+ghost use Rattle.cube.specs.Reply.{numberOf, OneAnswer};
 ghost use Rattle.report.specs.Report.{works, cut, cube};
 ghost use Rattle.vectors.specs.Safety.{registered, supported};
 ghost use Rattle.vectors.specs.Held.{held, own, heard};
@@ -200,3 +200,8 @@ pub fn fill(n: u32, status: &[u8], links: &[u16], vectors: &mut [u16]) -> Filled
     all_rounds(n, status, links, vectors);
     Filled::Done
 }
+
+// For every input the contract of `fill` allows one answer; the lent slice is given by `filled`.
+pub fn one_answer()
+    ensures { λ r. ⌜ OneAnswer said ⌝ }
+{}
