@@ -6,12 +6,12 @@ use native.Mathlib.Nat.{div-eq-of-lt, mod-eq-of-lt, lt-of-lt-of-le, div-self, on
 use native.Mathlib.Numerals.{add-one}
 use native.Mathlib.Omega.{arith}
 use mathlib.Core.Logic.{⊎-elim}
-use borrow.Author.Tests.{eq-eqb, ne-eqb}
+use borrow.Author.Tests.{le-leb}
 use lib.Dec.{eqb}
 use Rattle.cube.proofs.Order.{lt-or-ge}
-use lib.Bits.{bitXor, differ, xor-step, xor-shr, xor-lt}
+use lib.Bits.{bitXor, differ, xor-step, xor-shr, xor-lt, xor-zero-r}
 use lib.Pow.{pow-pos, pow-mono, pow-lt, pow-add, shl-shr, field, mod-mod-pow}
-use Rattle.cube.specs.Bits.{bit, place, flip}
+use Rattle.cube.specs.Bits.{bit, place, flip, crossed}
 
 -- a digit of an exclusive or is 1 where the two digits differ
 differ-digit : (u v : ℕ) → u < 2 → v < 2 → eqb (differ u v) 1 ≡ xor (eqb u 1) (eqb v 1)
@@ -125,3 +125,9 @@ pub bit-shift : (x i : ℕ) → 1 ≤ i → eqb (x / 2 ^ (i - 1) % 2) 1 ≡ bit 
 unfolding bit
 bit-shift x zero l = absurd (omega arith)
 bit-shift x (suc i) l = ap (λ (j : ℕ). eqb (x / 2 ^ j % 2) 1) (let e : suc i - 1 ≡ i = omega arith in e)
+
+-- within 1 to 10, and at 0, crossing is flipping
+pub crossed-flip : (x i : ℕ) → i ≤ 10 → crossed x i ≡ flip x i
+unfolding crossed flip place
+crossed-flip x zero h = sym (xor-zero-r x)
+crossed-flip x (suc i) h = rw (le-leb 1 (suc i) (omega arith), le-leb (suc i) 10 h)

@@ -1,18 +1,18 @@
 -- The laws of `pack`, `count`, `any` and `weight`. "For i from 1 to n" is said of `suc i` with i below n.
 use mathlib.Core.Path.{_≡_, refl, ap, ap₂, sym, _∙_}
-use mathlib.Core.Bool.{Bool, true, false, not, xor, _||_, or-true, or-false, true≢false, false≢true}
+use mathlib.Core.Bool.{Bool, true, false, not, xor, cond, _&&_, _||_, and-false, or-true, or-false, true≢false, false≢true}
 use mathlib.Core.Logic.{⊎-elim}
 use Prim.Native.Nat.{ℕ, zero, suc, _+_, _*_, _-_, _/_, _%_, _^_, _≤_, _<_}
-use native.Mathlib.Nat.{mod-eq-of-lt, mod-one, mod-lt, lt-of-le-of-lt, lt-of-lt-of-le, add-zero, eq-zero-or-pos, pow-succ'}
+use native.Mathlib.Nat.{mod-eq-of-lt, mod-one, mod-lt, le-trans, le-of-eq, lt-of-le-of-lt, lt-of-lt-of-le, add-zero, eq-zero-or-pos, pow-succ'}
 use native.Mathlib.Numerals.{add-one, one-add}
 use native.Mathlib.Omega.{arith}
-use borrow.Author.Tests.{lt-ltb}
+use borrow.Author.Tests.{lt-ltb, eq-eqb, ne-eqb}
 use lib.Bits.{bitXor, xor-lt}
 use lib.Dec.{eqb, ltb}
 use lib.Count.{ones, ones-cat}
 use lib.Pow.{pow-pos, pow-lt, pow-mono, high, low, mod-pow-add}
 use Rattle.cube.specs.Bits.{bit, place, flip, weight}
-use Rattle.cube.specs.Count.{one, pack, count, any}
+use Rattle.cube.specs.Count.{one, pack, count, any, ranked}
 use Rattle.cube.proofs.Order.{lt-or-ge, eq-or-ne}
 use Rattle.cube.proofs.Bits.{bit-shift, bit-zero, bit-xor, bit-mod, bit-high, bit-flip, bit-flip-other, flip-lt}
 
@@ -37,6 +37,9 @@ one-eqb (suc (suc d)) h = absurd (omega arith)
 -- a bit as a number, as the machine takes it
 pub one-bit : (x i : ℕ) → 1 ≤ i → x / 2 ^ (i - 1) % 2 ≡ one (bit x i)
 one-bit x i l = sym (one-eqb (x / 2 ^ (i - 1) % 2) (omega arith)) ∙ ap one (bit-shift x i l)
+
+pub one-bit-next : (x i : ℕ) → x / 2 ^ i % 2 ≡ one (bit x (i + 1))
+one-bit-next x i = ap (λ (j : ℕ). x / 2 ^ j % 2) (let e : i ≡ i + 1 - 1 = omega arith in e) ∙ one-bit x (i + 1) (omega arith)
 
 eqb-one : (b : Bool) → eqb (one b % 2) 1 ≡ b
 eqb-one true = refl
@@ -244,6 +247,47 @@ count-drop p q (suc n) i h ep eq same = ⊎-elim last (λ (ne : n ≡ i → ⊥)
 
     earlier : (n ≡ i → ⊥) → count p n ≡ suc (count q n) → count p n + one (p (suc n)) ≡ suc (count q n + one (q (suc n)))
     earlier ne ih = omega (arith, ap one (same n ne))
+
+-- more dimensions count no less
+pub count-mono : (p : ℕ → Bool) (i n : ℕ) → i ≤ n → count p i ≤ count p n
+unfolding count
+count-mono p i zero h = le-of-eq (ap (count p) (let e : i ≡ 0 = omega arith in e))
+count-mono p i (suc n) h =
+    ⊎-elim (λ (l : i < suc n). le-trans (count-mono p i n (omega arith)) (omega arith))
+    (λ (l : suc n ≤ i). le-of-eq (ap (count p) (let e : i ≡ suc n = omega arith in e))) (lt-or-ge i (suc n))
+
+-- ---- ranked
+
+pub ranked-le : (p : ℕ → Bool) (r n : ℕ) → ranked p r n ≤ n
+unfolding ranked
+ranked-le p r zero = omega arith
+ranked-le p r (suc n) = go (p (suc n) && eqb (count p n) r) (ranked-le p r n)
+  where
+    go : (b : Bool) → ranked p r n ≤ n → cond b (suc n) (ranked p r n) ≤ suc n
+    go true h = omega arith
+    go false h = omega arith
+
+-- the dimension that has r others below it
+pub ranked-found : (p : ℕ → Bool) (r n i : ℕ) → i < n → p (suc i) ≡ true → count p i ≡ r → ranked p r n ≡ suc i
+unfolding ranked count
+ranked-found p r zero i h e k = absurd (omega arith)
+ranked-found p r (suc n) i h e k = ⊎-elim (λ (l : i < n). lower l (ranked-found p r n i l e k)) top (lt-or-ge i n)
+  where
+    top : n ≤ i → cond (p (suc n) && eqb (count p n) r) (suc n) (ranked p r n) ≡ suc i
+    top l = let s : i ≡ n = omega arith in rw (sym s, e, eq-eqb (count p i) r k)
+
+    lower : i < n → ranked p r n ≡ suc i → cond (p (suc n) && eqb (count p n) r) (suc n) (ranked p r n) ≡ suc i
+    lower l ih = rw (ne-eqb (count p n) r (λ (w : count p n ≡ r). omega (arith, count-mono p (suc i) n l, ap one e)), and-false) ih
+
+-- with no more than r of them there is none
+pub ranked-none : (p : ℕ → Bool) (r n : ℕ) → count p n ≤ r → ranked p r n ≡ 0
+unfolding ranked count
+ranked-none p r zero h = refl
+ranked-none p r (suc n) h = go (p (suc n)) refl (ranked-none p r n (omega arith))
+  where
+    go : (b : Bool) → p (suc n) ≡ b → ranked p r n ≡ 0 → cond (b && eqb (count p n) r) (suc n) (ranked p r n) ≡ 0
+    go true e ih = rw (ne-eqb (count p n) r (λ (w : count p n ≡ r). omega (arith, ap one e))) ih
+    go false e ih = ih
 
 -- ---- weight
 

@@ -47,3 +47,7 @@ pub unless-refused : {A : Type 0} (m : ℕ) (r : Reply A) (k : ℕ) → unless m
 unfolding unless
 unless-refused zero r k e = inr (refl, e)
 unless-refused (suc m) r k e = inl (cc)
+
+-- no refusal is an acceptance
+pub refused-accepted : {A : Type 0} (m : ℕ) (x : A) → refused m ≡ accepted x → ⊥
+refused-accepted m x e = let z : _≡_ {A = ℕ} 0 1 = cc in omega arith

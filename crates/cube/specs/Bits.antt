@@ -24,7 +24,7 @@ flip a i = bitXor a (place i)
 abbrev pub weight : ℕ → ℕ
 weight x = ones x
 
--- a relative address with dimension i crossed; outside 1 to 10 the same address back
+-- a number with dimension i crossed; outside 1 to 10 the same number back
 unfoldable pub crossed : ℕ → ℕ → ℕ
 unfolding flip
 crossed x i = cond (leb 1 i && leb i 10) (flip x i) x

@@ -1,6 +1,6 @@
 -- What a job answers, in the paper's terms, and how a list of refusals is read.
 use Prim.Native.Nat.{ℕ, zero, suc}
-use mathlib.Core.Bool.{Bool, cond}
+use mathlib.Core.Bool.{Bool, true, false, cond}
 use mathlib.Core.List.{List, [], _∷_}
 
 -- a refusal with its number, or an acceptance with its values
@@ -22,3 +22,13 @@ unless (suc m) r = refused (suc m)
 unfoldable pub kept : ℕ → List ℕ → List ℕ → List ℕ
 kept zero new old = new
 kept (suc m) new old = old
+
+-- the number of a refusal, 0 for an acceptance
+abbrev pub numberOf : {A : Type 0} → Reply A → ℕ
+numberOf (refused m) = m
+numberOf (accepted x) = 0
+
+-- whether it is a refusal
+abbrev pub isRefusal : {A : Type 0} → Reply A → Bool
+isRefusal (refused m) = true
+isRefusal (accepted x) = false

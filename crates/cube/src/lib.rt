@@ -10,6 +10,20 @@ pub struct Node(pub u16);
 // A relative address, Wu's navigation vector.
 pub struct Nav(pub u16);
 
+// A number with dimension i crossed; outside 1 to 10 the same number.
+fn crossed(x: u16, i: u32) -> u16
+    ensures { λ r. ⌜ r ≡ crossed x i ⌝ }
+{
+    if i < 1 {
+        return x;
+    }
+    if 10 < i {
+        return x;
+    }
+    let bit: u16 = 1 << (i - 1);
+    x ^ bit
+}
+
 impl Node {
     // The relative address of this node and d.
     pub fn to(self, d: Node) -> Nav
@@ -23,6 +37,13 @@ impl Node {
         ensures { λ r. ⌜ r .0 ≡ bitXor (self .0) (v .0) ⌝ }
     {
         Node(self.0 ^ v.0)
+    }
+
+    // The neighbour along dimension i; outside 1 to 10 the same node.
+    pub fn neighbour(self, i: u32) -> Node
+        ensures { λ r. ⌜ r .0 ≡ crossed (self .0) i ⌝ }
+    {
+        Node(crossed(self.0, i))
     }
 }
 
@@ -38,14 +59,7 @@ impl Nav {
     pub fn crossed(self, i: u32) -> Nav
         ensures { λ r. ⌜ r .0 ≡ crossed (self .0) i ⌝ }
     {
-        if i < 1 {
-            return self;
-        }
-        if 10 < i {
-            return self;
-        }
-        let bit: u16 = 1 << (i - 1);
-        Nav(self.0 ^ bit)
+        Nav(crossed(self.0, i))
     }
 
     // Whether it is 0.

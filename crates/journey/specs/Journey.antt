@@ -70,19 +70,24 @@ unfolding refusal dimension sized narrow within works
 journeyRefusal n status links vecs picks path s d =
     refusal
     ((not (dimension n), 1)
-    ∷ (not (sized n status && (sized n links && (sized n vecs && (leb (n + 1) (length picks) && leb (n + 2) (length path))))), 2)
+    ∷ (not ((sized n status && (sized n links && sized n vecs)) && (leb (n + 1) (length picks) && leb (n + 2) (length path))), 2)
     ∷ (not (narrow n links), 3)
     ∷ (not (within n s && within n d), 4)
     ∷ (not (works status s), 5)
     ∷ (not (works status d), 6)
     ∷ [])
 
+-- the boards after the source, by an acceptance
+unfoldable pub leaving : ℕ → List ℕ → List ℕ → List ℕ → List ℕ → ℕ → ℕ → Choice → Reply (List ℕ)
+unfolding leave
+leaving n status links table picks s d c = leave n status links table picks s (bitXor s d) (maskOf c) (hopsOf c)
+
 -- the route over Fill's vectors
 unfoldable pub route : ℕ → List ℕ → List ℕ → List ℕ → ℕ → ℕ → Reply Route
-unfolding depart leave decide cube vectors
+unfolding depart leaving decide cube vectors
 route n status links picks s d =
     let table = vectors (cube n status links) in
-    depart (decide n status links table s d) (λ c. leave n status links table picks s (bitXor s d) (maskOf c) (hopsOf c))
+    depart (decide n status links table s d) (leaving n status links table picks s d)
 
 -- the route, or the refusal
 unfoldable pub journey : ℕ → List ℕ → List ℕ → List ℕ → List ℕ → List ℕ → ℕ → ℕ → Reply Route

@@ -1,8 +1,350 @@
 // The whole journey: fill, decide, and hop to the end.
+use cube::Nav;
+use cube::Node;
+use routing::Decision;
 use routing::Kind;
+use routing::Step;
+use vectors::Filled;
+ghost use mathlib.Core.Path.{_≡_};
+ghost use mathlib.Core.Bool.{true, false, _&&_};
+ghost use mathlib.Core.List.{_∷_, _++_};
+ghost use Prim.Native.Nat.{_+_, _-_, _^_, _≤_, _<_};
+ghost use lib.Dec.{leb};
+ghost use lib.ListN.{length, take, drop};
+ghost use Rattle.cube.specs.Bits.{bit, flip};
+ghost use Rattle.cube.specs.Count.{ranked};
+ghost use Rattle.cube.specs.Reply.{accepted, isRefusal};
+ghost use Rattle.routing.specs.Hop as hopping;
+ghost use Rattle.vectors.specs.Fill as filling;
+ghost use Rattle.routing.specs.Decide as deciding;
+ghost use Rattle.routing.specs.Decide.{chosen, decide};
+ghost use Rattle.journey.specs.Journey.{taken, hops, leave, leaving, routeBy, depart, journeyRefusal, journey, arrival, vectorsAfter, pathBy, pathAfter, said};
+ghost use Rattle.journey.specs.Walk.{came, stopped, Crossed, Followed, through};
 
 // What Journey answers: the source's kind and the hops made.
 pub enum Trip {
     Arrived(Kind, u32),
     Refused(u32),
+}
+
+// A walk under way: where the message is, its relative address, the boards after the source and how many there are, whether it is over, whether it
+// was refused, and the number.
+struct Walk {
+    node: Node,
+    nav: Nav,
+    boards: [u16; 11],
+    made: usize,
+    over: bool,
+    refused: bool,
+    number: u32,
+}
+
+// The dimension of rank r in a mask, rank 0 the lowest; 0 where there is none.
+fn rank(n: u32, mask: u16, r: u32) -> u32
+    requires { ⌜ n ≤ 16 ⌝ }
+    ensures { λ i. ⌜ i ≡ ranked (bit mask) r n ⌝ }
+{
+    let mut below: u32 = 0;
+    let mut i: u32 = 0;
+    while i < n {
+        let set = (mask >> i) as u32 % 2;
+        if r < below + set {
+            return i + 1;
+        }
+        below = below + set;
+        i += 1;
+    }
+    0
+}
+
+// The dimension that a pick takes of those offered.
+fn taken(n: u32, mask: u16, pick: u8) -> u32
+    requires { ⌜ n ≤ 10 ⌝ }
+    ensures { λ i. ⌜ i ≡ taken n mask pick ⌝ }
+{
+    let offered = Nav(mask).weight();
+    if offered == 0 {
+        return 0;
+    }
+    rank(n, mask, pick as u32 % offered)
+}
+
+// Whether an answer is a refusal.
+fn is_refusal(answer: Step) -> bool
+    ensures { λ r. ⌜ r ≡ isRefusal (hopping.said answer) ⌝ }
+{
+    match answer {
+        Step::Arrived => false,
+        Step::Offered(_) => false,
+        Step::Refused(_) => true,
+    }
+}
+
+impl Walk {
+    // The walk at its source.
+    fn begin(s: Node, nav: Nav) -> Walk
+        ensures { λ r. ⌜ (r .node ≡ s) × (r .nav ≡ nav) × (r .made ≡ 0) × (r .over ≡ false) × (r .refused ≡ false) ⌝ }
+    {
+        Walk {
+            node: s,
+            nav,
+            boards: [0u16; 11],
+            made: 0,
+            over: false,
+            refused: false,
+            number: 0,
+        }
+    }
+
+    // One hop further, along dimension i.
+    fn cross(self, i: u32) -> Walk
+        requires { ⌜ (i ≤ 10) × (self .made < 11) ⌝ }
+        ensures { λ r. ⌜ Crossed self i r ⌝ }
+    {
+        let node = self.node.neighbour(i);
+        let nav = self.nav.crossed(i);
+        let made = self.made;
+        let mut boards = self.boards;
+        boards[made] = node.0;
+        Walk {
+            node,
+            nav,
+            boards,
+            made: made + 1,
+            over: false,
+            refused: false,
+            number: 0,
+        }
+    }
+
+    // Over, at its end or by a refusal.
+    fn stop(self, answer: Step) -> Walk
+        ensures { λ r. ⌜ (r .over ≡ true) × (r .made ≡ self .made) × (came r ≡ stopped (hopping.said answer) (take (self .made) (self .boards))) ⌝ }
+    {
+        let mut w = self;
+        w.over = true;
+        w.number = answer.number();
+        w.refused = is_refusal(answer);
+        w
+    }
+
+    // What Hop's answer makes of the walk: its offer goes on by the pick, or its refusal number is handed out.
+    fn follow(self, n: u32, answer: Step, pick: u8) -> Walk
+        requires { ⌜ (n ≤ 10) × (self .made < 11) ⌝ }
+        ensures { λ r. ⌜ Followed n self (hopping.said answer) pick r ⌝ }
+    {
+        let Step::Offered(mask) = answer else {
+            return self.stop(answer);
+        };
+        self.cross(taken(n, mask, pick))
+    }
+}
+
+// The walk from its first board on, until it is over or has made its hops.
+fn onward(
+    n: u32,
+    status: &[u8],
+    links: &[u16],
+    vectors: &[u16],
+    picks: &[u8],
+    first: Walk,
+    promised: usize,
+) -> Walk
+    requires { ⌜ (n ≤ 10) × (promised ≤ 11) × (promised ≤ length (now picks)) × (1 ≤ promised) × (first .made ≡ 1) × (first .refused ≡ false) ⌝ }
+    ensures { λ r. ⌜ (came r ≡ through (take 1 (first .boards)) (hops n (now (status .entry)) (now (links .entry)) (now (vectors .entry)) (now (picks .entry)) (promised - 1) 1 (first .node .0) (first .nav .0))) × (r .made ≤ promised) ⌝ }
+{
+    let mut w = first;
+    let mut j: usize = 1;
+    while j < promised {
+        let node = w.node;
+        let nav = w.nav;
+        let answer = routing::hop(n, status, links, vectors, node, nav);
+        let next = w.follow(n, answer, picks[j]);
+        if next.over {
+            return next;
+        }
+        w = next;
+        j += 1;
+    }
+    w
+}
+
+// The walk from its source, by the mask and the hops of its offer.
+fn depart(
+    n: u32,
+    status: &[u8],
+    links: &[u16],
+    vectors: &[u16],
+    picks: &[u8],
+    s: Node,
+    nav: Nav,
+    mask: u16,
+    promised: usize,
+) -> Walk
+    requires { ⌜ (n ≤ 10) × (promised ≤ 11) × (promised ≤ length (now picks)) ⌝ }
+    ensures { λ r. ⌜ (came r ≡ leave n (now (status .entry)) (now (links .entry)) (now (vectors .entry)) (now (picks .entry)) (s .0) (nav .0) mask promised) × (r .made ≤ promised) ⌝ }
+{
+    let start = Walk::begin(s, nav);
+    if promised == 0 {
+        return start;
+    }
+    let first = start.cross(taken(n, mask, picks[0]));
+    onward(n, status, links, vectors, picks, first, promised)
+}
+
+// Writes the source and the boards after it into the path's first words.
+fn write_path(path: &mut [u16], s: Node, boards: [u16; 11], made: usize)
+    requires { ⌜ (made ≤ 11) × (made < length (now path)) ⌝ }
+    ensures { λ r. ⌜ now (path .exit) ≡ s .0 ∷ take made boards ++ drop (made + 1) (now (path .entry)) ⌝ }
+{
+    path[0] = s.0;
+    let mut i: usize = 0;
+    while i < made {
+        path[i + 1] = boards[i];
+        i += 1;
+    }
+}
+
+// The answer at the end of a walk: the path is written, or its refusal number is handed out.
+fn finish(w: Walk, kind: Kind, path: &mut [u16], s: Node) -> Trip
+    requires { ⌜ (w .made ≤ 11) × (w .made < length (now path)) ⌝ }
+    ensures answer { λ r. ⌜ said r ≡ arrival (routeBy (chosen kind) (came w)) ⌝ }
+    ensures memory { λ r. ⌜ now (path .exit) ≡ pathBy (routeBy (chosen kind) (came w)) (s .0) (now (path .entry)) ⌝ }
+{
+    if w.refused {
+        return Trip::Refused(w.number);
+    }
+    let boards = w.boards;
+    let made = w.made;
+    write_path(path, s, boards, made);
+    Trip::Arrived(kind, made as u32)
+}
+
+// The journey by Decide's answer: its offer goes on, or its refusal number is handed out.
+fn by_decision(
+    decision: Decision,
+    n: u32,
+    status: &[u8],
+    links: &[u16],
+    vectors: &[u16],
+    picks: &[u8],
+    path: &mut [u16],
+    s: Node,
+    d: Node,
+) -> Trip
+    requires { ⌜ (n ≤ 10) × (n + 1 ≤ length (now picks)) × (n + 2 ≤ length (now path)) × (deciding.said decision ≡ decide n (now status) (now links) (now vectors) (s .0) (d .0)) ⌝ }
+    ensures answer { λ r. ⌜ said r ≡ arrival (depart (deciding.said decision) (leaving n (now (status .entry)) (now (links .entry)) (now (vectors .entry)) (now (picks .entry)) (s .0) (d .0))) ⌝ }
+    ensures memory { λ r. ⌜ now (path .exit) ≡ pathBy (depart (deciding.said decision) (leaving n (now (status .entry)) (now (links .entry)) (now (vectors .entry)) (now (picks .entry)) (s .0) (d .0))) (s .0) (now (path .entry)) ⌝ }
+{
+    let Decision::Accepted(kind) = decision else {
+        return Trip::Refused(decision.number());
+    };
+    let offer = kind.offer();
+    let w = depart(
+        n,
+        status,
+        links,
+        vectors,
+        picks,
+        s,
+        s.to(d),
+        offer.mask,
+        offer.hops as usize,
+    );
+    finish(w, kind, path, s)
+}
+
+// The journey over filled vectors; where Fill refused, its number is handed out.
+fn by_fill(
+    filled: Filled,
+    n: u32,
+    status: &[u8],
+    links: &[u16],
+    vectors: &[u16],
+    picks: &[u8],
+    path: &mut [u16],
+    s: Node,
+    d: Node,
+) -> Trip
+    requires { ⌜ (n ≤ 10) × (n + 1 ≤ length (now picks)) × (n + 2 ≤ length (now path)) × (filling.said filled ≡ accepted tt) ⌝ }
+    ensures answer { λ r. ⌜ said r ≡ arrival (depart (decide n (now (status .entry)) (now (links .entry)) (now (vectors .entry)) (s .0) (d .0)) (leaving n (now (status .entry)) (now (links .entry)) (now (vectors .entry)) (now (picks .entry)) (s .0) (d .0))) ⌝ }
+    ensures memory { λ r. ⌜ now (path .exit) ≡ pathBy (depart (decide n (now (status .entry)) (now (links .entry)) (now (vectors .entry)) (s .0) (d .0)) (leaving n (now (status .entry)) (now (links .entry)) (now (vectors .entry)) (now (picks .entry)) (s .0) (d .0))) (s .0) (now (path .entry)) ⌝ }
+{
+    let Filled::Done = filled else {
+        return Trip::Refused(filled.number());
+    };
+    let decision = routing::decide(n, status, links, vectors, s, d);
+    by_decision(decision, n, status, links, vectors, picks, path, s, d)
+}
+
+// Whether there are picks for n + 1 hops and room for n + 2 path words.
+fn roomy(n: u32, picks: usize, path: usize) -> bool
+    requires { ⌜ n ≤ 10 ⌝ }
+    ensures { λ r. ⌜ r ≡ (leb (n + 1) picks && leb (n + 2) path) ⌝ }
+{
+    let hops = n as usize + 1;
+    if picks < hops {
+        return false;
+    }
+    hops + 1 <= path
+}
+
+// The number by which Journey refuses before filling, 0 for none.
+fn journey_refusal(
+    n: u32,
+    status: &[u8],
+    links: &[u16],
+    vectors: &[u16],
+    picks: &[u8],
+    path: &[u16],
+    s: Node,
+    d: Node,
+) -> u32
+    ensures { λ r. ⌜ r ≡ journeyRefusal n (now (status .entry)) (now (links .entry)) (now (vectors .entry)) (now (picks .entry)) (now (path .entry)) (s .0) (d .0) ⌝ }
+{
+    if !report::dimension(n) {
+        return 1;
+    }
+    if !report::all_sized(n, status.len(), links.len(), vectors.len()) {
+        return 2;
+    }
+    if !roomy(n, picks.len(), path.len()) {
+        return 2;
+    }
+    if !report::narrow(n, links) {
+        return 3;
+    }
+    if !report::both_within(n, s.0, d.0) {
+        return 4;
+    }
+    if !report::works(status, s) {
+        return 5;
+    }
+    if !report::works(status, d) {
+        return 6;
+    }
+    0
+}
+
+// Journey: fills, decides and hops to the end, and writes the nodes from s to d into the lent path.
+pub fn journey(
+    n: u32,
+    status: &[u8],
+    links: &[u16],
+    vectors: &mut [u16],
+    picks: &[u8],
+    path: &mut [u16],
+    s: Node,
+    d: Node,
+) -> Trip
+    ensures answer { λ r. ⌜ said r ≡ arrival (journey n (now (status .entry)) (now (links .entry)) (now (vectors .entry)) (now (picks .entry)) (now (path .entry)) (s .0) (d .0)) ⌝ }
+    ensures filled { λ r. ⌜ now (vectors .exit) ≡ vectorsAfter n (now (status .entry)) (now (links .entry)) (now (vectors .entry)) (now (picks .entry)) (now (path .entry)) (s .0) (d .0) ⌝ }
+    ensures walked { λ r. ⌜ now (path .exit) ≡ pathAfter n (now (status .entry)) (now (links .entry)) (now (vectors .entry)) (now (picks .entry)) (now (path .entry)) (s .0) (d .0) ⌝ }
+{
+    let number = journey_refusal(n, status, links, vectors, picks, path, s, d);
+    if number != 0 {
+        return Trip::Refused(number);
+    }
+    let filled = vectors::fill(n, status, links, vectors);
+    by_fill(filled, n, status, links, vectors, picks, path, s, d)
 }

@@ -1,5 +1,5 @@
 -- The laws of the masks that the routing rules offer.
-use mathlib.Core.Path.{_≡_, refl, ap, ap₂, _∙_}
+use mathlib.Core.Path.{_≡_, refl, ap, ap₂, sym, subst, _∙_}
 use mathlib.Core.Bool.{Bool, true, false, not, _&&_, and-eq-true-iff}
 use Prim.Native.Nat.{ℕ, zero, suc, _+_, _-_, _^_, _≤_, _<_}
 use native.Mathlib.Numerals.{add-one}
@@ -7,14 +7,15 @@ use native.Mathlib.Omega.{arith}
 use borrow.Author.Tests.{not-true}
 use Rattle.cube.specs.Bits.{bit, flip, weight}
 use Rattle.cube.proofs.Bits.{flip-lt}
-use Rattle.cube.proofs.Count.{bit-pack, pack-each, pack-find, pack-some, pack-not, pack-own, weight-le}
+use Rattle.cube.proofs.Count.{bit-pack, pack-each, pack-find, pack-some, pack-not, pack-own, weight-le, weight-on}
 use Rattle.cube.specs.Reply.{accepted}
+use Rattle.cube.proofs.Reply.{refused-accepted}
 use Rattle.report.specs.Health.{Cube}
 use Rattle.vectors.specs.Safety.{registered, safe, vectors}
 use Rattle.vectors.specs.Held.{own}
 use Rattle.vectors.proofs.Safety.{safe-preferred}
 use Rattle.vectors.proofs.Held.{own-safe}
-use Rattle.routing.specs.Rules.{borne, offer, spare, assured, lent, detour, choose, atSource, onward, proceed, atNode}
+use Rattle.routing.specs.Rules.{borne, offer, spare, Choice, hopsOf, home, assured, lent, detour, choose, atSource, onward, proceed, atNode}
 
 -- what holds of each dimension among dims whose link is sound and whose neighbour has its bit holds of each dimension offered
 pub offer-each : (C : Cube) (bits : ℕ → Bool) (dims a : ℕ) (P : ℕ → Type 0)
@@ -81,6 +82,37 @@ unfolding atSource
 source-away C bits s nav zero nz = absurd (nz refl)
 source-away C bits s nav (suc h) nz =
     let e : suc h - 1 ≡ h = omega arith in rw (e, add-one)
+
+-- a spare dimension offered leaves room for a hop more
+pub detour-room : (C : Cube) (bits : ℕ → Bool) (nav a : ℕ) → nav < 2 ^ (C .dim) → 0 < offer C bits (spare (C .dim) nav) a → weight nav < C .dim
+detour-room C bits nav a hn h =
+    let (i, e) = offer-find C bits (spare (C .dim) nav) a h in
+    offer-each C bits (spare (C .dim) nav) a (λ (x : ℕ). weight nav < C .dim)
+    (λ j l s k b.
+    let on = weight-on (C .dim) nav j hn l (not-true _ (sym (spare-bit (C .dim) nav j l) ∙ s)) in
+    omega (arith, on, weight-le (C .dim) (flip nav (suc j)) (flip-lt (C .dim) nav (suc j) hn l)))
+    i e
+
+accepts : (x c : Choice) (m : ℕ) → accepted x ≡ accepted c → hopsOf x ≤ m → hopsOf c ≤ m
+accepts x c m e h = let z : x ≡ c = cc in subst (λ (y : Choice). hopsOf y ≤ m) z h
+
+-- no source is promised more than n + 1 hops
+pub source-hops : (C : Cube) (bits : ℕ → ℕ → Bool) (s nav h : ℕ) (c : Choice) → nav < 2 ^ (C .dim) → weight nav ≡ h
+    → atSource C bits s nav h ≡ accepted c → hopsOf c ≤ C .dim + 1
+unfolding atSource choose
+source-hops C bits s nav zero c hn w e = accepts home c (C .dim + 1) e (omega arith)
+source-hops C bits s nav (suc h) c hn w e =
+    go (bits (suc h) s) (offer C (bits h) nav s) (offer C (bits (suc (suc h))) (spare (C .dim) nav) s) (detour-room C (bits (suc (suc h))) nav s hn) e
+  where
+    low : suc h ≤ C .dim
+    low = omega (arith, weight-le (C .dim) nav hn)
+
+    go : (t : Bool) (p q : ℕ) → (0 < q → weight nav < C .dim) → choose t p q (suc h) ≡ accepted c → hopsOf c ≤ C .dim + 1
+    go true zero q room k = absurd (refused-accepted 8 c k)
+    go true (suc p) q room k = accepts (assured (suc p) (suc h)) c (C .dim + 1) k (omega (arith, low))
+    go false (suc p) q room k = accepts (lent (suc p) (suc h)) c (C .dim + 1) k (omega (arith, low))
+    go false zero (suc q) room k = accepts (detour (suc q) (suc h + 2)) c (C .dim + 1) k (omega (arith, room (omega arith)))
+    go false zero zero room k = absurd (refused-accepted 7 c k)
 
 -- ---- the rule at a later node
 

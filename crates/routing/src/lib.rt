@@ -9,10 +9,11 @@ ghost use lib.Bits.{bitXor};
 ghost use lib.Dec.{eqb};
 ghost use Rattle.cube.specs.Bits.{bit, weight};
 ghost use Rattle.cube.specs.Count.{one};
+ghost use Rattle.cube.specs.Reply.{numberOf};
 ghost use Rattle.report.specs.Report.{cut, cube};
 ghost use Rattle.vectors.specs.Safety.{registered};
 ghost use Rattle.vectors.specs.Held.{own};
-ghost use Rattle.routing.specs.Rules.{borne, offer, spare, choose, atSource, proceed, atNode};
+ghost use Rattle.routing.specs.Rules.{maskOf, hopsOf, offer, spare, choose, atSource, proceed, atNode};
 ghost use Rattle.routing.specs.Refusals.{routeRefusal};
 ghost use Rattle.routing.specs.Decide as deciding;
 ghost use Rattle.routing.specs.Hop as hopping;
@@ -42,6 +43,45 @@ pub enum Step {
     Arrived,
     Offered(u16),
     Refused(u32),
+}
+
+impl Kind {
+    // Its offer; at home nothing is offered and no hop is made.
+    pub fn offer(self) -> Offer
+        ensures { λ r. ⌜ (r .mask ≡ maskOf (deciding.chosen self)) × (r .hops ≡ hopsOf (deciding.chosen self)) ⌝ }
+    {
+        match self {
+            Kind::Home => Offer { mask: 0, hops: 0 },
+            Kind::Assured(o) => o,
+            Kind::Lent(o) => o,
+            Kind::Detour(o) => o,
+        }
+    }
+}
+
+impl Decision {
+    // The number of a refusal, 0 for an acceptance.
+    pub fn number(self) -> u32
+        ensures { λ r. ⌜ r ≡ numberOf (deciding.said self) ⌝ }
+    {
+        match self {
+            Decision::Accepted(_) => 0,
+            Decision::Refused(m) => m,
+        }
+    }
+}
+
+impl Step {
+    // The number of a refusal, 0 for an acceptance.
+    pub fn number(self) -> u32
+        ensures { λ r. ⌜ r ≡ numberOf (hopping.said self) ⌝ }
+    {
+        match self {
+            Step::Arrived => 0,
+            Step::Offered(_) => 0,
+            Step::Refused(m) => m,
+        }
+    }
 }
 
 // Whether dimension i is among dims and a's neighbour along it has bit k, as registered at a: 1 or 0.

@@ -5,6 +5,7 @@ ghost use Prim.Native.Nat.{suc, _^_, _≤_, _<_};
 ghost use mathlib.Core.Bool.{_&&_};
 ghost use lib.ListN.{length, replicate};
 ghost use Rattle.cube.specs.Count.{one, count};
+ghost use Rattle.cube.specs.Reply.{numberOf};
 ghost use Rattle.report.specs.Report.{works, cut, cube};
 ghost use Rattle.vectors.specs.Safety.{registered, supported};
 ghost use Rattle.vectors.specs.Held.{own, heard};
@@ -15,6 +16,18 @@ ghost use Rattle.vectors.specs.Fill.{fillRefusal, fill, filled, said};
 pub enum Filled {
     Done,
     Refused(u32),
+}
+
+impl Filled {
+    // The number of a refusal, 0 where it is done.
+    pub fn number(self) -> u32
+        ensures { λ r. ⌜ r ≡ numberOf (said self) ⌝ }
+    {
+        match self {
+            Filled::Done => 0,
+            Filled::Refused(m) => m,
+        }
+    }
 }
 
 // Own bit k of node a, as 1 or 0; bit 0 is 1.

@@ -1,4 +1,4 @@
--- `cube::Nav::crossed` meets its contract: the three ways out are the two tests of `crossed`.
+-- `cube::crossed` meets its contract: the three ways out are the two tests of `crossed`.
 use borrow.Author.Needs.{needs}
 use borrow.Author.Tests.{le-leb, lt-leb}
 use mathlib.Core.Bool.{and-false}
@@ -6,8 +6,8 @@ use Prim.Native.Nat.{_≤_}
 use native.Mathlib.Omega.{arith}
 use Rattle.cube.specs.Bits.{crossed}
 use Rattle.cube.proofs.Bits.{place-shift}
-use Rattle.cube.proofs.Nav.crossed.Statement.{statement}
-use Rattle.cube.proofs.Nav.crossed.Tie as tie
+use Rattle.cube.proofs.crossed.Statement.{statement}
+use Rattle.cube.proofs.crossed.Tie as tie
 
 returns : tie.Need-returns
 unfolding crossed
@@ -26,7 +26,7 @@ shl-bit c = search needs
 returns-3 : tie.Need-returns-3
 unfolding crossed
 returns-3 c =
-    let i = c .before .before .before .args .i in
+    let i = c .before .before .args .i in
     let l : 1 ≤ i = omega arith in
     let h : i ≤ 10 = omega arith in
     rw (place-shift i l (omega arith), le-leb 1 i l, le-leb i 10 h)

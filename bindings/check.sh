@@ -1,0 +1,51 @@
+#!/bin/sh
+# Checks what stands outside the proved library: the C example, the Rust crates, and the comparison
+# of the C door with the model. One line for each thing that passed; everything on a failure.
+set -eu
+cd "$(dirname "$0")"
+root=$(cd .. && pwd)
+built=$root/target/bindings
+archive=$root/target/staticlib/libderuvain.a
+export CARGO_TARGET_DIR="$built"
+export RUSTFLAGS="-D warnings"
+mkdir -p "$built"
+
+# check WORDS COMMAND...: runs the command, and prints WORDS or, if it fails, all that it wrote.
+check() {
+    words=$1
+    shift
+    if "$@" >"$built/check.log" 2>&1; then
+        echo "bindings: $words"
+    else
+        cat "$built/check.log"
+        echo "bindings: FAILED: $words"
+        exit 1
+    fi
+}
+
+make_archive() {
+    (cd "$root" && rt staticlib deruvain)
+}
+
+c_example() {
+    cc -std=c99 -pedantic -Wall -Wextra -Werror -I c c/example.c "$archive" -o "$built/example" &&
+        "$built/example" >"$built/example.out" &&
+        diff c/example.out "$built/example.out"
+}
+
+cxx_header() {
+    c++ -std=c++11 -pedantic -Wall -Wextra -Werror -fsyntax-only -x c++ c/deruvain.h
+}
+
+run() {
+    cargo run --quiet --offline --release -p "$@"
+}
+
+test -e "$archive" || check "the archive is made" make_archive
+check "the C example prints c/example.out" c_example
+check "the header serves C++" cxx_header
+check "the tests of the Rust crates pass" cargo test --quiet --offline --workspace
+check "the comparison finds planted flaws" run compare -- --self-test
+check "the C door and the model agree" run compare
+tail -n 1 "$built/check.log"
+check "the benchmark runs" run bench -- --quick "$built/bench.svg"

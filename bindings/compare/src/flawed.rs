@@ -1,0 +1,257 @@
+//! Doors with one flaw each, to show that the comparison finds it.
+
+use deruvain_model::model::{class, WORKING};
+use deruvain_model::{Answer, Door, Opened, Plain};
+
+#[derive(Clone, Copy, Debug, PartialEq, Eq)]
+pub enum Flaw {
+    None,
+    DimensionWraps,
+    LengthsWrap,
+    FifthSweepWorks,
+    SilenceWorks,
+    LostBoardsHaveBits,
+    NeighbourLostClearsBitOne,
+    OwnBitAcrossBadLink,
+    SameRound,
+    UpperEndCounts,
+    FillCarriesOnAfterLinks,
+    DetourBeforeLent,
+    OwnBitOnly,
+    HighMarksRefusedByDecide,
+    DestinationBeforeSource,
+    BitZeroAcrossBadLink,
+    HighBitsOfVectors,
+    JourneyFillsFirst,
+    JourneyLeavesVectors,
+    PathOnRefusal,
+    PathOneTooLong,
+    PicksFromTheSecond,
+    PicksOneShort,
+    OpenClearsTheRest,
+    OpenLengthBeforeN,
+    OpenSlicesBeforeLength,
+    OpenWritesBeforeLinks,
+    OpenTakesOtherKinds,
+    OpenLengthWraps,
+}
+
+impl Flaw {
+    pub const ALL: [Flaw; 28] = [
+        Flaw::DimensionWraps,
+        Flaw::LengthsWrap,
+        Flaw::FifthSweepWorks,
+        Flaw::SilenceWorks,
+        Flaw::LostBoardsHaveBits,
+        Flaw::NeighbourLostClearsBitOne,
+        Flaw::OwnBitAcrossBadLink,
+        Flaw::SameRound,
+        Flaw::UpperEndCounts,
+        Flaw::FillCarriesOnAfterLinks,
+        Flaw::DetourBeforeLent,
+        Flaw::OwnBitOnly,
+        Flaw::HighMarksRefusedByDecide,
+        Flaw::DestinationBeforeSource,
+        Flaw::BitZeroAcrossBadLink,
+        Flaw::HighBitsOfVectors,
+        Flaw::JourneyFillsFirst,
+        Flaw::JourneyLeavesVectors,
+        Flaw::PathOnRefusal,
+        Flaw::PathOneTooLong,
+        Flaw::PicksFromTheSecond,
+        Flaw::PicksOneShort,
+        Flaw::OpenClearsTheRest,
+        Flaw::OpenLengthBeforeN,
+        Flaw::OpenSlicesBeforeLength,
+        Flaw::OpenWritesBeforeLinks,
+        Flaw::OpenTakesOtherKinds,
+        Flaw::OpenLengthWraps,
+    ];
+}
+
+/// Plain Rust with one flaw.
+pub struct Flawed(pub Flaw);
+
+fn working(byte: u8) -> bool {
+    class(byte) == WORKING
+}
+
+fn faulty(links: &[u16], a: usize, i: u32) -> bool {
+    links[a & !(1 << i)] >> i & 1 == 1
+}
+
+/// The spare dimensions whose neighbour has registered bit H+1, as a mask.
+fn spare(n: u32, links: &[u16], vectors: &[u16], s: u16, d: u16) -> u32 {
+    let h = (s ^ d).count_ones();
+    let bears = |i: &u32| vectors[s as usize ^ 1 << i] >> h & 1 == 1 && !faulty(links, s as usize, *i);
+    (0..n).filter(|i| (s ^ d) >> i & 1 == 0).filter(bears).map(|i| 1 << i).sum()
+}
+
+impl Flawed {
+    fn has(&self, flaw: Flaw) -> bool {
+        self.0 == flaw
+    }
+
+    /// The status bytes as this door takes them.
+    fn status(&self, status: &[u8]) -> Vec<u8> {
+        let taken = |byte: &u8| match byte {
+            5 if self.has(Flaw::FifthSweepWorks) => 4,
+            0 if self.has(Flaw::SilenceWorks) => 1,
+            _ => *byte,
+        };
+        status.iter().map(taken).collect()
+    }
+
+    /// The link words as this door takes them.
+    fn links(&self, n: u32, links: &[u16]) -> Vec<u16> {
+        let mut taken = links.to_vec();
+        if self.has(Flaw::UpperEndCounts) {
+            for (a, i) in (0..links.len()).flat_map(|a| (0..n.min(10)).map(move |i| (a, i))) {
+                taken[a & !(1 << i)] |= links[a] & 1 << i;
+            }
+        }
+        taken
+    }
+
+    /// The rounds, over a report that Fill accepts.
+    fn rounds(&self, n: u32, status: &[u8], links: &[u16], vectors: &mut [u16]) {
+        for a in 0..vectors.len() {
+            let lost = |i: u32| self.has(Flaw::NeighbourLostClearsBitOne) && !working(status[a ^ 1 << i]);
+            let first = working(status[a]) && !(0..n).any(|i| faulty(links, a, i) || lost(i));
+            vectors[a] = first as u16;
+        }
+        for k in 2..=n {
+            for a in 0..vectors.len() {
+                let sum = (0..n).filter(|&i| self.registered(links, vectors, a, i, k)).count() as u32;
+                let counts = working(status[a]) || self.has(Flaw::LostBoardsHaveBits);
+                vectors[a] |= ((counts && sum > n - k) as u16) << (k - 1);
+            }
+        }
+    }
+
+    /// The neighbour's bit k−1 as registered.
+    fn registered(&self, links: &[u16], vectors: &[u16], a: usize, i: u32, k: u32) -> bool {
+        let b = a ^ 1 << i;
+        let bit = if self.has(Flaw::SameRound) && b < a { k } else { k - 1 };
+        let own = vectors[b] >> (bit - 1) & 1 == 1;
+        own && (self.has(Flaw::OwnBitAcrossBadLink) || !faulty(links, a, i))
+    }
+
+    fn source_rule(&self, n: u32, links: &[u16], vectors: &[u16], s: u16, d: u16, answer: Answer) -> Answer {
+        let detour = || match spare(n, links, vectors, s, d) {
+            0 => None,
+            mask => Some(Answer::accepted(3, mask, (s ^ d).count_ones() + 2)),
+        };
+        match answer.kind {
+            2 if self.has(Flaw::DetourBeforeLent) => detour().unwrap_or(answer),
+            2 if self.has(Flaw::OwnBitOnly) => detour().unwrap_or(Answer::refused(7)),
+            _ => answer,
+        }
+    }
+}
+
+impl Door for Flawed {
+    fn class(&self, byte: u8) -> u32 {
+        class(self.status(&[byte])[0])
+    }
+
+    fn fill(&self, n: u32, status: &[u8], links: &[u16], vectors: &mut [u16]) -> u32 {
+        let n = if self.has(Flaw::DimensionWraps) { n % 32 } else { n };
+        let (mut status, links) = (self.status(status), self.links(n, links));
+        if self.has(Flaw::LengthsWrap) {
+            status.truncate(status.len() % 65_536);
+        }
+        let refusal = Plain.fill(n, &status, &links, vectors);
+        match refusal {
+            0 => self.rounds(n, &status, &links, vectors),
+            3 if self.has(Flaw::FillCarriesOnAfterLinks) => vectors.fill(0),
+            _ => {}
+        }
+        refusal
+    }
+
+    fn decide(&self, n: u32, status: &[u8], links: &[u16], vectors: &[u16], s: u16, d: u16) -> Answer {
+        let (status, links) = (self.status(status), self.links(n, links));
+        let answer = Plain.decide(n, &status, &links, vectors, s, d);
+        match answer.refusal {
+            5 if self.has(Flaw::DestinationBeforeSource) && !working(status[d as usize]) => Answer::refused(6),
+            0 | 4.. if self.has(Flaw::HighMarksRefusedByDecide) && links.iter().any(|word| word >> n != 0) => {
+                Answer::refused(3)
+            }
+            0 => self.source_rule(n, &links, vectors, s, d, answer),
+            _ => answer,
+        }
+    }
+
+    fn hop(&self, n: u32, status: &[u8], links: &[u16], vectors: &[u16], node: u16, relative: u16) -> Answer {
+        let (status, links) = (self.status(status), self.links(n, links));
+        let answer = Plain.hop(n, &status, &links, vectors, node, relative);
+        match answer.refusal {
+            9 if self.has(Flaw::BitZeroAcrossBadLink) && relative.count_ones() == 1 => {
+                Answer::accepted(1, relative as u32, 0)
+            }
+            9 if self.has(Flaw::HighBitsOfVectors) && vectors.iter().any(|word| word >> n != 0) => {
+                Answer::accepted(1, relative as u32, 0)
+            }
+            _ => answer,
+        }
+    }
+
+    fn journey(
+        &self,
+        n: u32,
+        status: &[u8],
+        links: &[u16],
+        vectors: &mut [u16],
+        picks: &[u8],
+        path: &mut [u16],
+        s: u16,
+        d: u16,
+    ) -> Answer {
+        let (status, links) = (self.status(status), self.links(n, links));
+        let before = vectors.to_vec();
+        let mut picks = picks.to_vec();
+        if self.has(Flaw::PicksFromTheSecond) && !picks.is_empty() {
+            picks.rotate_left(1);
+        }
+        if self.has(Flaw::PicksOneShort) && picks.len() == n as usize {
+            picks.push(0);
+        }
+        let answer = Plain.journey(n, &status, &links, vectors, &picks, path, s, d);
+        match answer.refusal {
+            0 if self.has(Flaw::PathOneTooLong) => {
+                path.iter_mut().skip(answer.hops as usize + 1).take(1).for_each(|word| *word = 0)
+            }
+            4..=6 if self.has(Flaw::JourneyFillsFirst) => drop(Plain.fill(n, &status, &links, vectors)),
+            7 if self.has(Flaw::JourneyLeavesVectors) => vectors.copy_from_slice(&before),
+            7 if self.has(Flaw::PathOnRefusal) => path[0] = s,
+            _ => {}
+        }
+        answer
+    }
+
+    fn open(&self, bytes: &[u8], status: &mut [u8], links: &mut [u16]) -> Opened {
+        let mut bytes = bytes.to_vec();
+        if self.has(Flaw::OpenTakesOtherKinds) && bytes.len() > 3 {
+            bytes[2] = 1;
+        }
+        if self.has(Flaw::OpenLengthWraps) {
+            bytes.truncate(bytes.len() % 65_536);
+        }
+        let opened = Plain.open(&bytes, status, links);
+        let short = |n: u8| status.len() < 1 << n || links.len() < 1 << n;
+        match opened.refusal {
+            0 if self.has(Flaw::OpenClearsTheRest) => status[1 << opened.n..].fill(0),
+            1 if self.has(Flaw::OpenLengthBeforeN) => return Opened::refused(10),
+            3 if self.has(Flaw::OpenWritesBeforeLinks) => status[0] = bytes[5],
+            10 if self.has(Flaw::OpenSlicesBeforeLength) => {
+                let header = bytes.len() > 4 && bytes[2..4] == [1, 0] && (1..=10).contains(&bytes[4]);
+                if header && bytes[..2] == ((bytes.len() - 2) as u16).to_le_bytes() && short(bytes[4]) {
+                    return Opened::refused(2);
+                }
+            }
+            _ => {}
+        }
+        opened
+    }
+}

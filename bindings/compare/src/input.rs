@@ -1,0 +1,169 @@
+//! One call of a job, and all that comes back of it.
+
+use deruvain_model::{Answer, Door};
+
+#[derive(Clone, Copy, Debug, PartialEq, Eq)]
+pub enum Job {
+    Class,
+    Fill,
+    Decide,
+    Hop,
+    Journey,
+    Open,
+}
+
+impl Job {
+    pub const ALL: [Job; 6] = [Job::Class, Job::Fill, Job::Decide, Job::Hop, Job::Journey, Job::Open];
+
+    pub fn name(self) -> &'static str {
+        ["class", "fill", "decide", "hop", "journey", "open"][self as usize]
+    }
+}
+
+/// The slices of a call, as lent or as they came back. A job that has no use for one leaves it empty.
+#[derive(Clone, Debug, Default, PartialEq, Eq)]
+pub struct Memory {
+    pub bytes: Vec<u8>,
+    pub status: Vec<u8>,
+    pub links: Vec<u16>,
+    pub vectors: Vec<u16>,
+    pub picks: Vec<u8>,
+    pub path: Vec<u16>,
+}
+
+#[derive(Clone, Debug, PartialEq, Eq)]
+pub struct Input {
+    pub job: Job,
+    pub n: u32,
+    pub memory: Memory,
+    /// The source, the node at Hop, or the byte to class.
+    pub first: u16,
+    /// The destination, or the relative address at Hop.
+    pub second: u16,
+}
+
+impl Input {
+    /// The dimension asked for, if any.
+    pub fn dimension(&self) -> Option<u32> {
+        match self.job {
+            Job::Class => None,
+            Job::Open => self.memory.bytes.get(4).map(|&byte| byte as u32),
+            _ => Some(self.n),
+        }
+    }
+}
+
+#[derive(Clone, Debug, PartialEq, Eq)]
+pub struct Output {
+    /// Fill and Class have a number only: Fill's is the refusal, Class's the kind. Open's n is the kind.
+    pub answer: Answer,
+    pub memory: Memory,
+    /// Whether the memory on both sides of every lent slice is as it was.
+    pub margins_kept: bool,
+}
+
+/// Odd, so that the slices lie at addresses that are no rounder than they need be.
+const MARGIN: usize = 7;
+const MARGIN_BYTE: u8 = 0xa5;
+const MARGIN_WORD: u16 = 0xa5c3;
+
+/// A slice in the middle of a room with known margins.
+pub struct Lent<T> {
+    room: Vec<T>,
+    filler: T,
+}
+
+impl<T: Copy + PartialEq> Lent<T> {
+    pub fn new(values: &[T], filler: T) -> Lent<T> {
+        let mut room = vec![filler; MARGIN];
+        room.extend_from_slice(values);
+        room.extend_from_slice(&[filler; MARGIN]);
+        Lent { room, filler }
+    }
+
+    pub fn slice(&mut self) -> &mut [T] {
+        let end = self.room.len() - MARGIN;
+        &mut self.room[MARGIN..end]
+    }
+
+    /// The slice as it came back, and whether the margins are as they were.
+    pub fn back(self) -> (Vec<T>, bool) {
+        let end = self.room.len() - MARGIN;
+        let margins = self.room[..MARGIN].iter().chain(&self.room[end..]);
+        let kept = margins.into_iter().all(|&value| value == self.filler);
+        (self.room[MARGIN..end].to_vec(), kept)
+    }
+}
+
+struct LentMemory {
+    bytes: Lent<u8>,
+    status: Lent<u8>,
+    links: Lent<u16>,
+    vectors: Lent<u16>,
+    picks: Lent<u8>,
+    path: Lent<u16>,
+}
+
+impl LentMemory {
+    fn new(memory: &Memory) -> LentMemory {
+        LentMemory {
+            bytes: Lent::new(&memory.bytes, MARGIN_BYTE),
+            status: Lent::new(&memory.status, MARGIN_BYTE),
+            links: Lent::new(&memory.links, MARGIN_WORD),
+            vectors: Lent::new(&memory.vectors, MARGIN_WORD),
+            picks: Lent::new(&memory.picks, MARGIN_BYTE),
+            path: Lent::new(&memory.path, MARGIN_WORD),
+        }
+    }
+
+    fn back(self) -> (Memory, bool) {
+        let (bytes, a) = self.bytes.back();
+        let (status, b) = self.status.back();
+        let (links, c) = self.links.back();
+        let (vectors, d) = self.vectors.back();
+        let (picks, e) = self.picks.back();
+        let (path, f) = self.path.back();
+        (Memory { bytes, status, links, vectors, picks, path }, a && b && c && d && e && f)
+    }
+}
+
+/// Calls the job, and gathers its answer and all lent memory afterwards.
+pub fn call(door: &dyn Door, input: &Input) -> Output {
+    let mut lent = LentMemory::new(&input.memory);
+    let answer = answer(door, input, &mut lent);
+    let (memory, margins_kept) = lent.back();
+    Output { answer, memory, margins_kept }
+}
+
+fn answer(door: &dyn Door, input: &Input, lent: &mut LentMemory) -> Answer {
+    let (n, first, second) = (input.n, input.first, input.second);
+    let (status, links, vectors) = (lent.status.slice(), lent.links.slice(), lent.vectors.slice());
+    match input.job {
+        Job::Class => Answer::accepted(door.class(first as u8), 0, 0),
+        Job::Fill => Answer::refused(door.fill(n, status, links, vectors)),
+        Job::Decide => door.decide(n, status, links, vectors, first, second),
+        Job::Hop => door.hop(n, status, links, vectors, first, second),
+        Job::Journey => door.journey(n, status, links, vectors, lent.picks.slice(), lent.path.slice(), first, second),
+        Job::Open => {
+            let opened = door.open(lent.bytes.slice(), status, links);
+            Answer { refusal: opened.refusal, kind: opened.n, ..Answer::default() }
+        }
+    }
+}
+
+#[cfg(test)]
+mod tests {
+    use super::*;
+
+    #[test]
+    fn a_written_margin_is_seen() {
+        for at in [0, MARGIN - 1, MARGIN + 3, 2 * MARGIN + 2] {
+            let mut lent = Lent::new(&[1u16, 2, 3], MARGIN_WORD);
+            lent.room[at] = 0;
+            assert_eq!(lent.back(), (vec![1, 2, 3], false));
+        }
+        let mut lent = Lent::new(&[1u16, 2, 3], MARGIN_WORD);
+        lent.slice()[2] = 9;
+        assert_eq!(lent.back(), (vec![1, 2, 9], true));
+    }
+}

@@ -1,0 +1,105 @@
+//! Document 01's cabinets and cases through the safe face.
+
+use deruvain::{Class, Kind, Node, Refusal, Relative, Report, Step, Vectors};
+
+fn f() -> Report {
+    let mut report = Report::healthy(4).unwrap();
+    for lost in [3, 4, 6, 9] {
+        report.status[lost] = 254;
+    }
+    report
+}
+
+fn l() -> Report {
+    let mut report = Report::healthy(4).unwrap();
+    report.status[11] = 254;
+    report.mark(Node(13), 1);
+    report.mark(Node(2), 2);
+    report
+}
+
+fn path(report: &Report, source: u16, destination: u16) -> Vec<u16> {
+    let journey = report.journey(&[0; 5], Node(source), Node(destination)).unwrap();
+    journey.path.iter().map(|node| node.0).collect()
+}
+
+fn decided(report: &Report, source: u16, destination: u16) -> Result<(Kind, u16, u32), Refusal> {
+    let decision = report.decide(&report.fill()?, Node(source), Node(destination))?;
+    Ok((decision.kind, decision.offer.mask(), decision.hops))
+}
+
+#[test]
+fn cabinet_l_is_marked_at_the_lower_ends() {
+    let marked: Vec<(usize, u16)> = l().links.iter().copied().enumerate().filter(|(_, word)| *word != 0).collect();
+    assert_eq!(marked, [(0, 2), (12, 1)]);
+}
+
+#[test]
+fn vectors_of_f() {
+    assert_eq!(f().fill().unwrap().0, [11, 5, 13, 0, 0, 11, 0, 13, 15, 0, 15, 13, 15, 15, 15, 15]);
+}
+
+#[test]
+fn decisions() {
+    assert_eq!(decided(&f(), 1, 12), Ok((Kind::Assured, 5, 3)));
+    assert_eq!(decided(&f(), 0, 11), Ok((Kind::Lent, 8, 3)));
+    assert_eq!(decided(&f(), 2, 7), Ok((Kind::Detour, 8, 4)));
+    assert_eq!(decided(&f(), 15, 2), Ok((Kind::Assured, 1, 3)));
+    assert_eq!(decided(&l(), 14, 9), Ok((Kind::Assured, 2, 3)));
+    assert_eq!(decided(&f(), 0, 0), Ok((Kind::Home, 0, 0)));
+    assert_eq!(decided(&f(), 1, 11), Err(Refusal::NoRoute));
+    assert_eq!(decided(&f(), 3, 0), Err(Refusal::Source));
+    assert_eq!(decided(&f(), 0, 3), Err(Refusal::Destination));
+    assert_eq!(decided(&f(), 0, 16), Err(Refusal::Address));
+}
+
+#[test]
+fn paths() {
+    assert_eq!(path(&f(), 1, 12), [1, 0, 8, 12]);
+    assert_eq!(path(&f(), 2, 7), [2, 10, 14, 15, 7]);
+    assert_eq!(path(&f(), 0, 7), [0, 8, 10, 14, 15, 7]);
+    assert_eq!(path(&f(), 15, 2), [15, 14, 10, 2]);
+    assert_eq!(path(&l(), 14, 9), [14, 12, 8, 9]);
+    assert_eq!(path(&l(), 12, 13), [12, 14, 15, 13]);
+    assert_eq!(path(&f(), 5, 5), [5]);
+}
+
+#[test]
+fn hops() {
+    let (report, vectors) = (f(), f().fill().unwrap());
+    assert_eq!(report.hop(&vectors, Node(12), Relative(0)), Ok(Step::Arrived));
+    let Ok(Step::Offered(offer)) = report.hop(&vectors, Node(0), Relative(12)) else { panic!() };
+    assert!(offer.dimensions().eq([4]));
+    assert_eq!(report.hop(&vectors, Node(1), Relative(10)), Err(Refusal::NothingToOffer));
+}
+
+#[test]
+fn gathered_vectors_may_be_wrong() {
+    let report = Report::healthy(2).unwrap();
+    let wrong = Vectors(vec![2, 0, 0, 0]);
+    assert_eq!(report.decide(&wrong, Node(0), Node(3)), Err(Refusal::NotBorneOut));
+    assert_eq!(report.decide(&Vectors(vec![]), Node(0), Node(3)), Err(Refusal::Length));
+}
+
+#[test]
+fn unusable_reports_are_refused() {
+    let odd = |n, boards, words| Report { n, status: vec![1; boards], links: vec![0; words] };
+    assert_eq!(odd(0, 1, 1).fill(), Err(Refusal::Dimension));
+    assert_eq!(odd(u32::MAX, 4, 4).fill(), Err(Refusal::Dimension));
+    assert_eq!(odd(2, 4, 3).fill(), Err(Refusal::Length));
+    assert_eq!(odd(11, 2048, 2048).journey(&[0; 12], Node(0), Node(1)), Err(Refusal::Dimension));
+    assert_eq!(f().journey(&[0; 4], Node(1), Node(12)), Err(Refusal::Length));
+}
+
+#[test]
+fn classes() {
+    let named = [0, 1, 4, 5, 253, 254, 255].map(|byte| Class::of(byte).to_string());
+    assert_eq!(named, ["silent", "working", "working", "late", "late", "down", "empty"]);
+    assert_eq!((f().class(Node(3)), f().class(Node(16))), (Some(Class::Down), None));
+}
+
+#[test]
+fn every_refusal_has_its_number() {
+    let numbers: Vec<u32> = (0..20).filter_map(Refusal::of).map(Refusal::number).collect();
+    assert!(numbers.into_iter().eq(1..=10));
+}

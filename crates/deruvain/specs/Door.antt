@@ -1,0 +1,52 @@
+-- What the jobs answer, as the numbers that cross to C and Rust.
+use Prim.Native.Nat.{ℕ}
+use mathlib.Core.Path.{_≡_}
+use Rattle.cube.specs.Reply.{Reply, refused, accepted}
+use Rattle.report.specs.declared.Class.{Class}
+use Rattle.report.specs.declared.Class.the-variants.{Silent, Working, Late, Down, Empty}
+use Rattle.routing.specs.Rules.{Choice, home, assured, lent, detour, maskOf, hopsOf, Next, arrived, onward}
+use Rattle.deruvain.specs.declared.Answer.{Answer}
+use Rattle.deruvain.specs.declared.Record.{Record}
+
+-- the classes, in the order of document 01
+abbrev pub classNumber : Class → ℕ
+classNumber Silent = 0
+classNumber Working = 1
+classNumber Late = 2
+classNumber Down = 3
+classNumber Empty = 4
+
+-- home 0, assured 1, lent 2, detour 3
+abbrev pub kindNumber : Choice → ℕ
+kindNumber home = 0
+kindNumber (assured mask h) = 1
+kindNumber (lent mask h) = 2
+kindNumber (detour mask h) = 3
+
+-- four numbers
+pub record Says (r : Answer) (number k m h : ℕ) : Type 0 where
+  pub refusal : r .refusal ≡ number
+  pub kind : r .kind ≡ k
+  pub mask : r .mask ≡ m
+  pub hops : r .hops ≡ h
+
+-- what Decide's answer becomes
+abbrev pub Decided : Answer → Reply Choice → Type 0
+Decided r (refused m) = Says r m 0 0 0
+Decided r (accepted c) = Says r 0 (kindNumber c) (maskOf c) (hopsOf c)
+
+-- what Hop's answer becomes: kind 0 arrived, 1 offered
+abbrev pub Hopped : Answer → Reply Next → Type 0
+Hopped r (refused m) = Says r m 0 0 0
+Hopped r (accepted arrived) = Says r 0 0 0 0
+Hopped r (accepted (onward mask)) = Says r 0 1 mask 0
+
+-- what Journey's answer becomes: the source's kind and mask, and the hops
+abbrev pub Travelled : Answer → Reply (Choice × ℕ) → Type 0
+Travelled r (refused m) = Says r m 0 0 0
+Travelled r (accepted a) = Says r 0 (kindNumber (a .0)) (maskOf (a .0)) (a .1)
+
+-- what Open's answer becomes
+abbrev pub Read : Record → Reply ℕ → Type 0
+Read r (refused m) = (r .refusal ≡ m) × (r .n ≡ 0)
+Read r (accepted n) = (r .refusal ≡ 0) × (r .n ≡ n)

@@ -1,0 +1,219 @@
+// The door for C and Rust: every job on numbers and slices alone.
+use cube::Nav;
+use cube::Node;
+use journey::Trip;
+use record::Opened;
+use report::Class;
+use routing::Decision;
+use routing::Kind;
+use routing::Step;
+ghost use mathlib.Core.Path.{_≡_};
+ghost use Rattle.cube.specs.Reply.{numberOf};
+ghost use Rattle.report.specs.Class.{classOf};
+ghost use Rattle.vectors.specs.Fill.{fill, filled};
+ghost use Rattle.routing.specs.Rules.{maskOf};
+ghost use Rattle.routing.specs.Decide as deciding;
+ghost use Rattle.routing.specs.Hop as hopping;
+ghost use Rattle.journey.specs.Journey as travelling;
+ghost use Rattle.record.specs.Open as opening;
+ghost use Rattle.deruvain.specs.Door.{classNumber, kindNumber, Says, Decided, Hopped, Travelled, Read};
+
+// A job's answer: the refusal's number, 0 for an acceptance, and the acceptance's numbers, 0 after a refusal.
+#[repr(C)]
+pub struct Answer {
+    pub refusal: u32,
+    pub kind: u32,
+    pub mask: u32,
+    pub hops: u32,
+}
+
+// Open's answer: the refusal's number, 0 for none, and n, 0 after a refusal.
+#[repr(C)]
+pub struct Record {
+    pub refusal: u32,
+    pub n: u32,
+}
+
+// The number of a class.
+fn class_number(class: Class) -> u32
+    ensures { λ r. ⌜ r ≡ classNumber class ⌝ }
+{
+    match class {
+        Class::Silent => 0,
+        Class::Working => 1,
+        Class::Late => 2,
+        Class::Down => 3,
+        Class::Empty => 4,
+    }
+}
+
+// The class of a status byte: 0 silent, 1 working, 2 late, 3 down, 4 empty.
+#[no_mangle]
+pub extern "C" fn deruvain_class(byte: u8) -> u32
+    ensures { λ r. ⌜ r ≡ classNumber (classOf byte) ⌝ }
+{
+    class_number(report::class_of(byte))
+}
+
+// Fill: the refusal's number, 0 for done.
+#[no_mangle]
+pub extern "C" fn deruvain_fill(n: u32, status: &[u8], links: &[u16], vectors: &mut [u16]) -> u32
+    ensures answer { λ r. ⌜ r ≡ numberOf (fill n (now (status .entry)) (now (links .entry)) (now (vectors .entry))) ⌝ }
+    ensures memory { λ r. ⌜ now (vectors .exit) ≡ filled n (now (status .entry)) (now (links .entry)) (now (vectors .entry)) ⌝ }
+{
+    vectors::fill(n, status, links, vectors).number()
+}
+
+// The number of a kind.
+fn kind_number(kind: Kind) -> u32
+    ensures { λ r. ⌜ r ≡ kindNumber (deciding.chosen kind) ⌝ }
+{
+    match kind {
+        Kind::Home => 0,
+        Kind::Assured(_) => 1,
+        Kind::Lent(_) => 2,
+        Kind::Detour(_) => 3,
+    }
+}
+
+// An acceptance's numbers.
+fn accepted(kind: Kind, hops: u32) -> Answer
+    ensures { λ r. ⌜ Says r 0 (kindNumber (deciding.chosen kind)) (maskOf (deciding.chosen kind)) hops ⌝ }
+{
+    let mask = kind.offer().mask as u32;
+    Answer {
+        refusal: 0,
+        kind: kind_number(kind),
+        mask,
+        hops,
+    }
+}
+
+// A refusal's numbers.
+fn refused(number: u32) -> Answer
+    ensures { λ r. ⌜ Says r number 0 0 0 ⌝ }
+{
+    Answer {
+        refusal: number,
+        kind: 0,
+        mask: 0,
+        hops: 0,
+    }
+}
+
+// Decide's answer as numbers.
+fn of_decision(decision: Decision) -> Answer
+    ensures { λ r. ⌜ Decided r (deciding.said decision) ⌝ }
+{
+    match decision {
+        Decision::Accepted(kind) => accepted(kind, kind.offer().hops),
+        Decision::Refused(number) => refused(number),
+    }
+}
+
+// Decide: kind 0 home, 1 assured, 2 lent, 3 detour.
+#[no_mangle]
+pub extern "C" fn deruvain_decide(
+    n: u32,
+    status: &[u8],
+    links: &[u16],
+    vectors: &[u16],
+    source: u16,
+    destination: u16,
+) -> Answer
+    ensures { λ r. ⌜ Decided r (deciding.decide n (now (status .entry)) (now (links .entry)) (now (vectors .entry)) source destination) ⌝ }
+{
+    of_decision(routing::decide(n, status, links, vectors, Node(source), Node(destination)))
+}
+
+// Hop's answer as numbers.
+fn of_step(step: Step) -> Answer
+    ensures { λ r. ⌜ Hopped r (hopping.said step) ⌝ }
+{
+    match step {
+        Step::Arrived => refused(0),
+        Step::Offered(mask) => Answer {
+            refusal: 0,
+            kind: 1,
+            mask: mask as u32,
+            hops: 0,
+        },
+        Step::Refused(number) => refused(number),
+    }
+}
+
+// Hop: kind 0 arrived, 1 offered.
+#[no_mangle]
+pub extern "C" fn deruvain_hop(
+    n: u32,
+    status: &[u8],
+    links: &[u16],
+    vectors: &[u16],
+    node: u16,
+    relative: u16,
+) -> Answer
+    ensures { λ r. ⌜ Hopped r (hopping.hop n (now (status .entry)) (now (links .entry)) (now (vectors .entry)) node relative) ⌝ }
+{
+    of_step(routing::hop(n, status, links, vectors, Node(node), Nav(relative)))
+}
+
+// Journey's answer as numbers.
+fn of_trip(trip: Trip) -> Answer
+    ensures { λ r. ⌜ Travelled r (travelling.said trip) ⌝ }
+{
+    match trip {
+        Trip::Arrived(kind, hops) => accepted(kind, hops),
+        Trip::Refused(number) => refused(number),
+    }
+}
+
+// Journey: the source's kind and mask, and the hops made.
+#[no_mangle]
+pub extern "C" fn deruvain_journey(
+    n: u32,
+    status: &[u8],
+    links: &[u16],
+    vectors: &mut [u16],
+    picks: &[u8],
+    path: &mut [u16],
+    source: u16,
+    destination: u16,
+) -> Answer
+    ensures answer { λ r. ⌜ Travelled r (travelling.arrival (travelling.journey n (now (status .entry)) (now (links .entry)) (now (vectors .entry)) (now (picks .entry)) (now (path .entry)) source destination)) ⌝ }
+    ensures filled { λ r. ⌜ now (vectors .exit) ≡ travelling.vectorsAfter n (now (status .entry)) (now (links .entry)) (now (vectors .entry)) (now (picks .entry)) (now (path .entry)) source destination ⌝ }
+    ensures walked { λ r. ⌜ now (path .exit) ≡ travelling.pathAfter n (now (status .entry)) (now (links .entry)) (now (vectors .entry)) (now (picks .entry)) (now (path .entry)) source destination ⌝ }
+{
+    of_trip(journey::journey(
+        n,
+        status,
+        links,
+        vectors,
+        picks,
+        path,
+        Node(source),
+        Node(destination),
+    ))
+}
+
+// Open's answer as numbers.
+fn of_opened(opened: Opened) -> Record
+    ensures { λ r. ⌜ Read r (opening.said opened) ⌝ }
+{
+    match opened {
+        Opened::Cube(n) => Record { refusal: 0, n },
+        Opened::Refused(number) => Record {
+            refusal: number,
+            n: 0,
+        },
+    }
+}
+
+// Open: n.
+#[no_mangle]
+pub extern "C" fn deruvain_open(bytes: &[u8], status: &mut [u8], links: &mut [u16]) -> Record
+    ensures answer { λ r. ⌜ Read r (opening.opened (now (bytes .entry)) (now (status .entry)) (now (links .entry))) ⌝ }
+    ensures boards { λ r. ⌜ now (status .exit) ≡ opening.statusAfter (now (bytes .entry)) (now (status .entry)) (now (links .entry)) ⌝ }
+    ensures words { λ r. ⌜ now (links .exit) ≡ opening.linksAfter (now (bytes .entry)) (now (status .entry)) (now (links .entry)) ⌝ }
+{
+    of_opened(record::open(bytes, status, links))
+}

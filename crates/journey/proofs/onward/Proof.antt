@@ -1,0 +1,80 @@
+-- `journey::onward` meets its contract. The loop keeps that the whole walk is its boards so far and its rest.
+use mathlib.Core.Path.{refl, subst}
+use Prim.Native.Nat.{_-_, _≤_}
+use native.Mathlib.Omega.{arith}
+use borrow.Author.Needs.{needs}
+use lib.ListN.{getD, take}
+use denote.Ref.{now}
+use Rattle.cube.specs.Reply.{Reply}
+use Rattle.routing.specs.Rules.{Next}
+use Rattle.journey.specs.Journey.{hops}
+use Rattle.journey.specs.Walk.{Followed, through}
+use Rattle.journey.proofs.Walks.{Under, under-next, under-over, under-end}
+use Rattle.journey.proofs.onward.Statement.{statement}
+use Rattle.journey.proofs.onward.Tie as tie
+
+abbrev Inv-loop : tie.InvT-loop
+Inv-loop n status links vectors picks promised w₀ j₀ w j = (1 ≤ j) × (j ≤ promised) × Under n status links vectors picks promised
+    (through (take 1 (w₀ .boards)) (hops n status links vectors picks (promised - 1) 1 (w₀ .node .0) (w₀ .nav .0))) j w
+
+abbrev μ-loop : tie.MeasureT-loop
+μ-loop n status links vectors picks promised w₀ j₀ w j = promised - j
+
+loop-holds : tie.Need-loop-holds Inv-loop μ-loop
+loop-holds c =
+    let p = c .before .before .before .before .pre in
+    (omega arith, p .3, record { made = p .4; going = p .5; rest = refl })
+
+hop-requires : tie.Need-hop-requires Inv-loop μ-loop
+hop-requires c κs = search needs
+
+shared-slice-read-follow : tie.Need-shared-slice-read-follow Inv-loop μ-loop
+shared-slice-read-follow c = omega (arith, c .before .before .before .before .before .before .before .before .before .before .pre .2)
+
+follow-requires : tie.Need-follow-requires Inv-loop μ-loop
+follow-requires c κs = (c .before .before .before .before .before .before .before .before .before .before .pre .0, omega (arith, c .before .before .before .before .before .before .before .before .before .before .pre .1, c .before .before .before .before .before .loop .inv .2 .made))
+
+returns : tie.Need-returns Inv-loop μ-loop
+returns c =
+    let a = c .before .before .before .before .before .before .before .before .before .before .before .before .args in
+    let l = c .before .before .before .before .before .before .before .loop in
+    under-over (a .n) (now (a .status)) (now (a .links)) (now (a .vectors)) (now (a .picks)) (a .promised) (through (take 1 (a .first .boards)) (hops (a .n) (now (a .status)) (now (a .links)) (now (a .vectors)) (now (a .picks)) (a .promised - 1) 1 (a .first .node .0) (a .first .nav .0))) (l .j) (l .w) (c .before .follow .result) (c .before .before .before .before .before .before .loop-test .taken) (l .inv .2)
+    (subst (λ (x : Reply Next). Followed (a .n) (l .w) x (getD (now (a .picks)) (l .j) 0) (c .before .follow .result)) (c .before .before .before .hop .ensures) (c .before .follow .ensures)) (c .if1 .taken)
+
+add-j : tie.Need-add-j Inv-loop μ-loop
+add-j c = search needs
+
+loop-less : tie.Need-loop-less Inv-loop μ-loop
+loop-less c = search needs
+
+loop-again : tie.Need-loop-again Inv-loop μ-loop
+loop-again c =
+    let a = c .before .before .before .before .before .before .before .before .before .before .before .before .args in
+    let l = c .before .before .before .before .before .before .before .loop in (
+      omega arith,
+      omega arith,
+      under-next (a .n) (now (a .status)) (now (a .links)) (now (a .vectors)) (now (a .picks)) (a .promised) (through (take 1 (a .first .boards)) (hops (a .n) (now (a .status)) (now (a .links)) (now (a .vectors)) (now (a .picks)) (a .promised - 1) 1 (a .first .node .0) (a .first .nav .0))) (l .j) (l .w) (c .before .follow .result) (c .before .before .before .before .before .before .loop-test .taken) (c .before .before .before .before .before .before .before .before .before .before .before .before .pre .1) (l .inv .2)
+          (subst (λ (x : Reply Next). Followed (a .n) (l .w) x (getD (now (a .picks)) (l .j) 0) (c .before .follow .result)) (c .before .before .before .hop .ensures) (c .before .follow .ensures)) (c .if1 .left),
+    )
+
+returns-2 : tie.Need-returns-2 Inv-loop μ-loop
+returns-2 c =
+    let a = c .before .before .before .before .before .before .args in
+    let l = c .before .loop in
+    (under-end (a .n) (now (a .status)) (now (a .links)) (now (a .vectors)) (now (a .picks)) (a .promised) (through (take 1 (a .first .boards)) (hops (a .n) (now (a .status)) (now (a .links)) (now (a .vectors)) (now (a .picks)) (a .promised - 1) 1 (a .first .node .0) (a .first .nav .0))) (l .j) (l .w) (omega arith) (l .inv .2), omega (arith, l .inv .2 .made))
+
+pub onward-spec : {M : Type 1} → statement M
+onward-spec =
+    tie.close
+    (tie.spec
+    Inv-loop
+    μ-loop
+    loop-holds
+    hop-requires
+    shared-slice-read-follow
+    follow-requires
+    returns
+    add-j
+    loop-less
+    loop-again
+    returns-2)
