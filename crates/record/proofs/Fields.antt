@@ -4,7 +4,8 @@ use mathlib.Core.Bool.{true, false}
 use mathlib.Core.List.{List}
 use Prim.Native.Nat.{ℕ, _+_, _^_, _≤_, _<_}
 use native.Mathlib.Omega.{arith}
-use lib.ListN.{length, getD}
+use lib.ListN.{length, getD, drop, length-drop}
+use lib.Seq.{length-take-le}
 use Rattle.cube.proofs.Table.{length-table, getD-table, table-part}
 use Rattle.cube.specs.Table.{table}
 use Rattle.report.specs.Report.{narrow}
@@ -20,8 +21,13 @@ pub status-table : (bytes : List ℕ) → 5 + 2 ^ nIn bytes ≤ length bytes →
 unfolding statusIn
 status-table bytes h = table-part bytes (statusAt bytes) 5 (2 ^ nIn bytes) h (λ i. refl)
 
+-- a record long enough has a status byte and a link word for each node
+pub count-status : (bytes : List ℕ) → 5 + 2 ^ nIn bytes ≤ length bytes → length (statusIn bytes) ≡ 2 ^ nIn bytes
+unfolding statusIn
+count-status bytes h = length-take-le (2 ^ nIn bytes) (drop 5 bytes) (rw length-drop (omega arith))
+
 module _ (bytes : List ℕ) where
-  count-links : length (linksIn bytes) ≡ 2 ^ nIn bytes
+  pub count-links : length (linksIn bytes) ≡ 2 ^ nIn bytes
   unfolding linksIn
   count-links = length-table (linkIn bytes) (2 ^ nIn bytes)
 

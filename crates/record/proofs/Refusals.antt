@@ -6,9 +6,10 @@ use mathlib.Core.Logic.{⊎-elim}
 use Prim.Native.Nat.{ℕ, zero, suc, _+_, _-_, _*_, _^_, _≤_, _<_}
 use native.Mathlib.Omega.{arith}
 use borrow.Author.Tests.{lt-ltb, le-ltb, le-leb, lt-leb, eq-eqb, ne-eqb}
-use lib.Dec.{leb, eqb}
+use lib.Dec.{leb, ltb, eqb}
 use lib.ListN.{length, drop}
 use Rattle.cube.specs.Reply.{refused, accepted, refusal, unless, kept}
+use Rattle.cube.proofs.Reply.{refusal-le}
 use Rattle.cube.proofs.Order.{lt-or-ge, eq-or-ne}
 use Rattle.report.specs.Report.{dimension, narrow}
 use Rattle.record.specs.Open.{lengthIn, kindIn, nIn, statusIn, linksIn, openRefusal, opened, statusAfter, linksAfter}
@@ -78,12 +79,26 @@ module _ (bytes status links : List ℕ) where
               pub refuse-none : narrow (nIn bytes) (linksIn bytes) ≡ true → openRefusal bytes status links ≡ 0
               refuse-none h = rw (from-narrow, h)
 
+-- no number is above 10
+pub open-refusal-le : (bytes status links : List ℕ) → openRefusal bytes status links ≤ 10
+unfolding openRefusal refusal
+open-refusal-le bytes status links =
+    refusal-le (ltb (length bytes) 5) 10 _ 10 (omega arith)
+    (refusal-le (not (eqb (lengthIn bytes) (length bytes - 2))) 10 _ 10 (omega arith)
+    (refusal-le (not (eqb (kindIn bytes) 1)) 10 _ 10 (omega arith)
+    (refusal-le (not (dimension (nIn bytes))) 1 _ 10 (omega arith)
+    (refusal-le (not (eqb (lengthIn bytes) (3 + 3 * 2 ^ nIn bytes))) 10 _ 10 (omega arith)
+    (refusal-le (not (room bytes status links)) 2 _ 10 (omega arith)
+    (refusal-le (not (narrow (nIn bytes) (linksIn bytes))) 3 0 10 (omega arith) (omega arith)))))))
+
 -- what holds of a record and the lent slices where Open refuses nothing
 pub record Readable (bytes status links : List ℕ) : Type 0 where
+  pub atLeastOne : 1 ≤ nIn bytes
   pub dimensions : nIn bytes ≤ 10
   pub size : length bytes ≡ 5 + 3 * 2 ^ nIn bytes
   pub statusRoom : 2 ^ nIn bytes ≤ length status
   pub linksRoom : 2 ^ nIn bytes ≤ length links
+  pub narrowLinks : narrow (nIn bytes) (linksIn bytes) ≡ true
 
 -- each test would have given its number
 module _ (bytes status links : List ℕ) (none : openRefusal bytes status links ≡ 0) where
@@ -117,13 +132,22 @@ module _ (bytes status links : List ℕ) (none : openRefusal bytes status links 
       ⊎-elim (λ h. absurd (omega (arith, refuse-links bytes status links five total kind low high size h))) (λ h. h)
       (lt-or-ge (length links) (2 ^ nIn bytes))
 
+  narrow-links : narrow (nIn bytes) (linksIn bytes) ≡ true
+  narrow-links = go (narrow (nIn bytes) (linksIn bytes)) refl
+    where
+      go : (b : Bool) → narrow (nIn bytes) (linksIn bytes) ≡ b → b ≡ true
+      go true e = refl
+      go false e = absurd (omega (arith, refuse-wide bytes status links five total kind low high size status-room links-room e))
+
   pub readable : Readable bytes status links
   readable =
       record {
+        atLeastOne = low;
         dimensions = high;
         size = omega (arith, five, total, size);
         statusRoom = status-room;
         linksRoom = links-room;
+        narrowLinks = narrow-links;
       }
 
 -- what Open answers and leaves behind

@@ -1,0 +1,4 @@
+pub mod Placing
+pub mod Text
+pub mod Lines
+pub mod Answers

@@ -1,0 +1,52 @@
+-- `text::put_opened` meets its contract: each arm is one case of the answer.
+use borrow.Author.Needs.{needs}
+use native.Mathlib.Omega.{arith}
+use Rattle.text.specs.Listing.{told}
+use Rattle.text.proofs.put_opened.Statement.{statement}
+use Rattle.text.proofs.put_opened.Tie as tie
+
+enum-known-opened : tie.Need-enum-known-opened
+enum-known-opened c = search needs
+
+put-report-requires : tie.Need-put-report-requires
+put-report-requires c κs = (rw (c .before .before .opened .given .1) at (c .before .before .before .before .before .before .before .pre .0), omega arith)
+
+enum-known-opened-2 : tie.Need-enum-known-opened-2
+enum-known-opened-2 c = search needs
+
+slice-aggregate-put-titled : tie.Need-slice-aggregate-put-titled
+slice-aggregate-put-titled c = search needs
+
+cast-put-titled : tie.Need-cast-put-titled
+cast-put-titled c = search needs
+
+put-titled-requires : tie.Need-put-titled-requires
+put-titled-requires c κs = (rw (c .before .before .before .opened2 .given .1) at (c .before .before .before .before .before .before .before .before .pre .0), omega arith)
+
+same-length : tie.Need-same-length
+same-length c = search needs
+
+returns : tie.Need-returns
+returns c = rw (c .before .before .before .before .before .opened .given .1) (c .before .before .put-report .ensures)
+
+same-length-2 : tie.Need-same-length-2
+same-length-2 c = search needs
+
+returns-2 : tie.Need-returns-2
+unfolding told
+returns-2 c = rw (c .before .before .before .before .before .before .opened2 .given .1) (c .before .before .put-titled .ensures)
+
+pub put-opened-spec : {M : Type 1} → statement M
+put-opened-spec =
+    tie.close
+    (tie.spec
+    enum-known-opened
+    put-report-requires
+    enum-known-opened-2
+    slice-aggregate-put-titled
+    cast-put-titled
+    put-titled-requires
+    same-length
+    returns
+    same-length-2
+    returns-2)

@@ -1,0 +1,54 @@
+-- The listing of a record.
+use Prim.Native.Nat.{ℕ, _^_}
+use mathlib.Core.Bool.{Bool, cond}
+use mathlib.Core.List.{List, _++_}
+use lib.Dec.{ltb}
+use lib.ListN.{length, getD, replicate}
+use Rattle.cube.specs.Reply.{Reply, refused, accepted}
+use Rattle.report.specs.Class.{classOf}
+use Rattle.report.specs.Report.{cube}
+use Rattle.report.specs.declared.Class.{Class}
+use Rattle.report.specs.declared.Class.the-variants.{Silent, Working, Late, Down, Empty}
+use Rattle.vectors.specs.Safety.{bitsOf}
+use Rattle.record.specs.Open.{statusIn, linksIn, opened}
+use Rattle.text.specs.Text.{spell, decimal, row, joined}
+
+-- a word and a number on a line
+unfoldable pub titled : List ℕ → ℕ → List ℕ
+unfolding decimal
+titled word m = word ++ (spell " " ++ (decimal m ++ spell "\n"))
+
+-- the name of a class
+abbrev pub named : Class → List ℕ
+named Silent = spell "silent"
+named Working = spell "working"
+named Late = spell "late"
+named Down = spell "down"
+named Empty = spell "empty"
+
+-- the line of node a: its number, its class by its status byte, and its bits from 1 to n
+unfoldable pub line : ℕ → List ℕ → (ℕ → ℕ → Bool) → ℕ → List ℕ
+unfolding decimal row classOf
+line n status bits a =
+    decimal a ++ (spell " " ++ (named (classOf (getD status a 0)) ++ (spell " " ++ (row (bits a) n ++ spell "\n"))))
+
+-- the header, and the lines of all nodes
+unfoldable pub cubeText : ℕ → List ℕ → (ℕ → ℕ → Bool) → List ℕ
+unfolding titled joined line
+cubeText n status bits = titled (spell "cube") n ++ joined (line n status bits) (2 ^ n)
+
+-- of an accepted record its cube with the bits of Definition 1, else the refusal
+unfoldable pub told : Reply ℕ → List ℕ → List ℕ → List ℕ
+unfolding cubeText titled bitsOf cube
+told (accepted n) status links = cubeText n status (bitsOf (cube n status links))
+told (refused m) status links = titled (spell "refused") m
+
+-- as many places as the largest cube has nodes
+abbrev pub places : List ℕ
+places = replicate 1024 0
+
+-- the text for all bytes of standard input: over 4,096 of them are refused by 10, else they are the record
+unfoldable pub listing : List ℕ → List ℕ
+unfolding told opened statusIn linksIn
+listing bytes =
+    told (cond (ltb 4096 (length bytes)) (refused 10) (opened bytes places places)) (statusIn bytes) (linksIn bytes)

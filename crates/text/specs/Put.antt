@@ -1,0 +1,39 @@
+-- Text put into a lent buffer.
+use Prim.Native.Nat.{ℕ, _+_, _^_, _≤_, _<_}
+use mathlib.Core.Path.{_≡_}
+use mathlib.Core.Bool.{Bool, true}
+use mathlib.Core.List.{List}
+use lib.ListN.{length, take}
+use lib.Seq.{sets}
+use Rattle.cube.specs.Reply.{Reply, refused, accepted}
+use Rattle.report.specs.Report.{narrow}
+use Rattle.vectors.specs.Held.{own}
+use Rattle.text.specs.Listing.{told}
+
+-- the text stands from place at on, all other places are as before, and next is the place after it
+pub record Put (text : List ℕ) (at : ℕ) (old new : List ℕ) (next : ℕ) : Type 0 where
+  pub after : next ≡ at + length text
+  pub stands : new ≡ sets old at text
+
+-- own bit k of node a as the boards hold it, the node first
+unfoldable pub held : List ℕ → ℕ → ℕ → Bool
+unfolding own
+held vectors a k = own vectors k a
+
+-- an accepted report of dimension n at the start of two slices
+pub record Report (n : ℕ) (status links : List ℕ) : Type 0 where
+  pub low : 1 ≤ n
+  pub high : n ≤ 10
+  pub statusRoom : 2 ^ n ≤ length status
+  pub linksRoom : 2 ^ n ≤ length links
+  pub narrowLinks : narrow n (take (2 ^ n) links) ≡ true
+
+-- what Open answers: an accepted report, or a refusal's number
+abbrev pub Fit : Reply ℕ → List ℕ → List ℕ → Type 0
+Fit (accepted n) status links = Report n status links
+Fit (refused m) status links = m < 10000
+
+-- the text of an answer, with the report at the start of the slices
+abbrev pub toldOf : Reply ℕ → List ℕ → List ℕ → List ℕ
+toldOf (accepted n) status links = told (accepted n) (take (2 ^ n) status) (take (2 ^ n) links)
+toldOf (refused m) status links = told (refused m) status links
