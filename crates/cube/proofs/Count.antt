@@ -4,7 +4,7 @@ use mathlib.Core.Bool.{Bool, true, false, not, xor, cond, _&&_, _||_, and-false,
 use mathlib.Core.Logic.{⊎-elim}
 use Prim.Native.Nat.{ℕ, zero, suc, _+_, _*_, _-_, _/_, _%_, _^_, _≤_, _<_}
 use native.Mathlib.Nat.{mod-eq-of-lt, mod-one, mod-lt, le-trans, le-of-eq, lt-of-le-of-lt, lt-of-lt-of-le, add-zero, eq-zero-or-pos, pow-succ'}
-use native.Mathlib.Numerals.{add-one, one-add}
+use native.Mathlib.Numerals.{add-one, add-two, add-three, add-four, add-five, one-add}
 use native.Mathlib.Omega.{arith}
 use borrow.Author.Tests.{lt-ltb, eq-eqb, ne-eqb, eqb-false}
 use lib.Bits.{bitXor, xor-lt}
@@ -185,6 +185,12 @@ count-le p (suc n) = omega (arith, count-le p n, one-le (p (suc n)))
 pub count-step : (p : ℕ → Bool) (i : ℕ) → count p (i + 1) ≡ count p i + one (p (i + 1))
 unfolding count
 count-step p i = rw add-one
+
+-- five dimensions more, written out
+pub count-five : (p : ℕ → Bool) (i : ℕ)
+    → count p i + (one (p (suc i)) + one (p (suc (i + 1))) + one (p (suc (i + 2))) + one (p (suc (i + 3))) + one (p (suc (i + 4)))) ≡ count p (i + 5)
+unfolding count
+count-five p i = rw (add-one, add-two, add-three, add-four, add-five) (omega arith)
 
 one-not : (b : Bool) → one b + one (not b) ≡ 1
 one-not true = refl

@@ -1,7 +1,7 @@
 // Wu's safety vectors: what the boards hold, and Fill.
 use cube::Node;
 ghost use mathlib.Core.Path.{_≡_};
-ghost use Prim.Native.Nat.{suc, min, _^_, _≤_, _<_};
+ghost use Prim.Native.Nat.{suc, min, _+_, _^_, _≤_, _<_};
 ghost use mathlib.Core.Bool.{_&&_};
 ghost use lib.ListN.{length, replicate};
 ghost use Rattle.cube.specs.Bits.{bit, flip};
@@ -100,7 +100,8 @@ fn bit_of(word: u16, k: u32) -> u32
 // Bit k of a's neighbour along dimension i + 1, as registered at a, as 1 or 0.
 fn registered(links: &[u16], vectors: &[u16], a: usize, i: u32, k: u32) -> u32
     requires { ⌜ (i < 16) × (k ≤ 16) × (a < length (now links)) × (flip a (suc i) < length (now vectors)) ⌝ }
-    ensures { λ r. ⌜ r ≡ one (registered (cut (now (links .entry))) (own (now (vectors .entry)) k) a (suc i)) ⌝ }
+    ensures digit { λ r. ⌜ r ≡ one (registered (cut (now (links .entry))) (own (now (vectors .entry)) k) a (suc i)) ⌝ }
+    ensures small { λ r. ⌜ r ≤ 1 ⌝ }
 {
     let b = across(a, i);
     let end = lower(a, b);
@@ -121,6 +122,37 @@ fn support(n: u32, links: &[u16], vectors: &[u16], a: usize, k: u32) -> u32
     sum
 }
 
+// How many are registered with bit k along the five dimensions from i + 1 on, in the largest cabinet.
+fn five(links: &[u16], vectors: &[u16], a: usize, i: u32, k: u32) -> u32
+    requires { ⌜ (i ≤ 5) × (k ≤ 10) × (a < 1024) × (length (now links) ≡ 1024) × (length (now vectors) ≡ 1024) ⌝ }
+    ensures { λ r. ⌜ count (registered (cut (now (links .entry))) (own (now (vectors .entry)) k) a) i + r ≡ count (registered (cut (now (links .entry))) (own (now (vectors .entry)) k) a) (i + 5) ⌝ }
+{
+    let one = registered(links, vectors, a, i, k);
+    let two = one + registered(links, vectors, a, i + 1, k);
+    let three = two + registered(links, vectors, a, i + 2, k);
+    let four = three + registered(links, vectors, a, i + 3, k);
+    four + registered(links, vectors, a, i + 4, k)
+}
+
+// The same along all ten dimensions of the largest cabinet, written out.
+fn ten(links: &[u16], vectors: &[u16], a: usize, k: u32) -> u32
+    requires { ⌜ (k ≤ 10) × (a < 1024) × (length (now links) ≡ 1024) × (length (now vectors) ≡ 1024) ⌝ }
+    ensures { λ r. ⌜ r ≡ count (registered (cut (now (links .entry))) (own (now (vectors .entry)) k) a) 10 ⌝ }
+{
+    five(links, vectors, a, 0, k) + five(links, vectors, a, 5, k)
+}
+
+// How many of a's neighbours are registered with bit k: written out in the largest cabinet, by the loop in any other.
+fn heard_by(n: u32, links: &[u16], vectors: &[u16], a: usize, k: u32) -> u32
+    requires { ⌜ (n ≤ 10) × (k ≤ 10) × (a < 2 ^ n) × (length (now links) ≡ 2 ^ n) × (length (now vectors) ≡ 2 ^ n) ⌝ }
+    ensures { λ r. ⌜ r ≡ count (registered (cut (now (links .entry))) (own (now (vectors .entry)) k) a) n ⌝ }
+{
+    if n == 10 {
+        return ten(links, vectors, a, k);
+    }
+    support(n, links, vectors, a, k)
+}
+
 // Bit k + 1 of node a by the bits k that the boards hold, as 1 or 0.
 fn next_bit(n: u32, status: &[u8], links: &[u16], vectors: &[u16], a: usize, k: u32) -> u16
     requires { ⌜ (n ≤ 10) × (k < n) × (a < 2 ^ n) × (length (now links) ≡ 2 ^ n) × (length (now vectors) ≡ 2 ^ n) ⌝ }
@@ -128,7 +160,7 @@ fn next_bit(n: u32, status: &[u8], links: &[u16], vectors: &[u16], a: usize, k: 
 {
     let number = a as u16;
     if report::works(status, Node(number)) {
-        let sum = support(n, links, vectors, a, k);
+        let sum = heard_by(n, links, vectors, a, k);
         if sum <= n - (k + 1) { 0 } else { 1 }
     } else {
         0

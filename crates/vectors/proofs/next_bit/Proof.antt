@@ -22,8 +22,8 @@ cast-number c =
 works-requires : tie.Need-works-requires
 works-requires c κs = search needs
 
-support-requires : tie.Need-support-requires
-support-requires c κs = search needs
+heard-by-requires : tie.Need-heard-by-requires
+heard-by-requires c κs = search needs
 
 add-if2 : tie.Need-add-if2
 add-if2 c = search needs
@@ -38,7 +38,7 @@ returns c =
     sym
     (ap one
     (ap₂ _&&_ (sym (c .before .before .before .works .ensures) ∙ c .before .before .if1 .taken)
-    (too-few (cube (a .n) (now (a .status)) (now (a .links))) (own (now (a .vectors)) (a .k)) (suc (a .k)) (a .a) (omega (arith, c .before .support .ensures, c .if2 .taken)))))
+    (too-few (cube (a .n) (now (a .status)) (now (a .links))) (own (now (a .vectors)) (a .k)) (suc (a .k)) (a .a) (omega (arith, c .before .heard-by .ensures, c .if2 .taken)))))
 
 returns-2 : tie.Need-returns-2
 unfolding cube
@@ -47,7 +47,7 @@ returns-2 c =
     sym
     (ap one
     (ap₂ _&&_ (sym (c .before .before .before .works .ensures) ∙ c .before .before .if1 .taken)
-    (enough (cube (a .n) (now (a .status)) (now (a .links))) (own (now (a .vectors)) (a .k)) (suc (a .k)) (a .a) (omega (arith, c .before .support .ensures, c .if2 .left)))))
+    (enough (cube (a .n) (now (a .status)) (now (a .links))) (own (now (a .vectors)) (a .k)) (suc (a .k)) (a .a) (omega (arith, c .before .heard-by .ensures, c .if2 .left)))))
 
 returns-3 : tie.Need-returns-3
 returns-3 c =
@@ -62,7 +62,7 @@ next-bit-spec =
     (tie.spec
     cast-number
     works-requires
-    support-requires
+    heard-by-requires
     add-if2
     sub-if2
     returns

@@ -61,7 +61,9 @@ mul-result c =
     record { fits = lt-of-le-of-lt (le-trans (le-of-eq (digit c)) (one-le (registered (cut (now (a .links))) (own (now (a .vectors)) (a .k)) (a .a) (suc (a .i))))) (omega arith) }
 
 returns : tie.Need-returns
-returns c = digit c
+returns c =
+    let a = c .before .before .before .before .before .before .before .before .args in
+    (digit c, le-trans (le-of-eq (digit c)) (one-le (registered (cut (now (a .links))) (own (now (a .vectors)) (a .k)) (a .a) (suc (a .i)))))
 
 pub registered-spec : {M : Type 1} → statement M
 registered-spec =

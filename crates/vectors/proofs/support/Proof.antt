@@ -7,7 +7,7 @@ use borrow.Author.Needs.{needs}
 use denote.Ref.{now}
 use Rattle.cube.specs.Count.{one, count}
 use Rattle.cube.proofs.Bits.{flip-lt}
-use Rattle.cube.proofs.Count.{one-le, count-le, count-step}
+use Rattle.cube.proofs.Count.{count-le, count-step}
 use Rattle.report.specs.Report.{cut}
 use Rattle.vectors.specs.Safety.{registered}
 use Rattle.vectors.specs.Held.{own}
@@ -33,7 +33,7 @@ registered-requires c κs =
 add-sum : tie.Need-add-sum Inv-loop μ-loop
 add-sum c =
     let a = c .before .before .before .before .before .args in
-    omega (arith, c .before .before .loop .inv .1, count-le (registered (cut (now (a .links))) (own (now (a .vectors)) (a .k)) (a .a)) (c .before .before .loop .i), c .registered .ensures, one-le (registered (cut (now (a .links))) (own (now (a .vectors)) (a .k)) (a .a) (suc (c .before .before .loop .i))))
+    omega (arith, c .before .before .loop .inv .1, count-le (registered (cut (now (a .links))) (own (now (a .vectors)) (a .k)) (a .a)) (c .before .before .loop .i), c .registered .ensures .1)
 
 add-i : tie.Need-add-i Inv-loop μ-loop
 add-i c = search needs
@@ -44,7 +44,7 @@ loop-less c = search needs
 loop-again : tie.Need-loop-again Inv-loop μ-loop
 loop-again c =
     let a = c .before .before .before .before .before .args in
-    (omega arith, ap₂ _+_ (c .before .before .loop .inv .1) (c .registered .ensures ∙ ap (λ (x : ℕ). one (registered (cut (now (a .links))) (own (now (a .vectors)) (a .k)) (a .a) x)) (sym (add-one (c .before .before .loop .i)))) ∙ sym (count-step (registered (cut (now (a .links))) (own (now (a .vectors)) (a .k)) (a .a)) (c .before .before .loop .i)))
+    (omega arith, ap₂ _+_ (c .before .before .loop .inv .1) (c .registered .ensures .0 ∙ ap (λ (x : ℕ). one (registered (cut (now (a .links))) (own (now (a .vectors)) (a .k)) (a .a) x)) (sym (add-one (c .before .before .loop .i)))) ∙ sym (count-step (registered (cut (now (a .links))) (own (now (a .vectors)) (a .k)) (a .a)) (c .before .before .loop .i)))
 
 returns : tie.Need-returns Inv-loop μ-loop
 returns c =
