@@ -1,7 +1,6 @@
 -- The lettered cases of document 01, as one table: what the definitions give, and what the document says.
 use Prim.Native.Nat.{ℕ, suc}
 use mathlib.Core.Path.{_≡_}
-use mathlib.Core.Bool.{Bool, true}
 use mathlib.Core.List.{List, [], _∷_, map}
 use lib.ListN.{replicate}
 use Rattle.cube.specs.Reply.{Reply, refused, accepted}

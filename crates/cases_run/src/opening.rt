@@ -94,7 +94,10 @@ pub fn all() {
     changed(b"n=3, boards for n=2", 4, 3);
     changed_twice(b"n=1, boards for n=2, a link word of 4", 4, 1, 9, 4);
     short_links(b"three link words lent", &FOUR);
-    short_links(b"three link words lent, a link word of 4", &with(FOUR, 9, 4));
+    short_links(
+        b"three link words lent, a link word of 4",
+        &with(FOUR, 9, 4),
+    );
     changed(b"a link word of 4", 9, 4);
     changed(b"a link word of 256", 16, 1);
     changed(b"a link word of 3", 15, 3);

@@ -1,16 +1,15 @@
 -- The laws of single bits: of an exclusive or, of a remainder, of a power, of a neighbour.
-use mathlib.Core.Path.{_≡_, refl, ap, ap₂, sym, _∙_, subst}
+use mathlib.Core.Path.{_≡_, refl, ap, sym, _∙_}
 use mathlib.Core.Bool.{Bool, true, false, not, xor, false≢true}
 use Prim.Native.Nat.{ℕ, zero, suc, _+_, _*_, _-_, _/_, _%_, _^_, _≤_, _<_}
 use native.Mathlib.Nat.{div-eq-of-lt, mod-eq-of-lt, lt-of-lt-of-le, div-self, one-mul, mul-mod-left}
-use native.Mathlib.Numerals.{add-one}
 use native.Mathlib.Omega.{arith}
 use mathlib.Core.Logic.{⊎-elim}
 use borrow.Author.Tests.{le-leb}
 use lib.Dec.{eqb}
 use Rattle.cube.proofs.Order.{lt-or-ge}
 use lib.Bits.{bitXor, differ, xor-step, xor-shr, xor-lt, xor-zero-r}
-use lib.Pow.{pow-pos, pow-mono, pow-lt, pow-add, shl-shr, field, mod-mod-pow}
+use lib.Pow.{pow-pos, pow-mono, pow-lt, pow-add, field, mod-mod-pow}
 use Rattle.cube.specs.Bits.{bit, place, flip, crossed}
 
 -- a digit of an exclusive or is 1 where the two digits differ

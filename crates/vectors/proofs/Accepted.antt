@@ -1,6 +1,6 @@
 -- What is known of a report that Fill accepts.
 use mathlib.Core.Path.{_≡_}
-use mathlib.Core.Bool.{true, _&&_, and-eq-true-iff}
+use mathlib.Core.Bool.{_&&_, and-eq-true-iff}
 use mathlib.Core.List.{List}
 use Prim.Native.Nat.{ℕ, _≤_, _^_}
 use borrow.Author.Tests.{not-false, eqb-true}
