@@ -178,13 +178,11 @@ def words(nodes, marked):
     return [marked.get(a, 0) for a in range(nodes)]
 
 
-STATUS_F, SOUND = cabinet(16, (3, 4, 6, 9)), words(16, {})
-VECTORS_F = [11, 5, 13, 0, 0, 11, 0, 13, 15, 0, 15, 13, 15, 15, 15, 15]
+STATUS_F, SOUND = cabinet(17, (3, 4, 6, 9)), words(17, {})
+VECTORS_F = [11, 5, 13, 0, 0, 11, 0, 13, 15, 0, 15, 13, 15, 15, 15, 15, 0]
 STATUS_L, LINKS_L = cabinet(16, (11,)), words(16, {0: 2, 12: 1})
-WIDE = words(16, {15: 16})
-SHORT, LONG = [1] * 15, [0] * 17
 FOUR = bytes([15, 0, 1, 0, 2, 1, 1, 0, 1] + [0] * 8)
-RECORD_F = bytes([51, 0, 1, 0, 4] + STATUS_F + [0] * 32)
+RECORD_F = bytes([51, 0, 1, 0, 4] + STATUS_F[:16] + [0] * 32)
 
 
 # ---- how it is printed
@@ -197,40 +195,61 @@ def lent(name, values):
 def answer(x):
     if isinstance(x, int):
         return "refused %d" % x
-    if x == "arrived" or isinstance(x, str):
+    if isinstance(x, str):
         return x
     return "home" if x[0] == "home" else "%s, mask %d, hops %d" % x[:3]
 
 
-def say_fill(name, n, status, links, length=16):
-    by, vectors = fill(n, status, links, length)
-    out.append("fill %s: %s%s" % (name, "refused %d" % by if by else "done", lent("vectors", vectors)))
+def padded(values, places):
+    return values + [LENT] * (places - len(values))
 
 
-def say_decide(name, n, status, links, vectors, s, d):
-    out.append("decide %s: %s" % (name, answer(decide(n, status, links, vectors, s, d))))
+def say_fill(n, status, links, vectors, word):
+    marks = words(17, {15: word})
+    by, after = fill(n, STATUS_F[:status], marks[:links], vectors)
+    head = "fill n=%d, lengths %d %d %d, last word %d" % (n, status, links, vectors, word)
+    out.append("%s: %s%s" % (head, "refused %d" % by if by else "done", lent("vectors", padded(after, 17))))
 
 
-def say_hop(name, n, status, links, vectors, a, nav):
-    out.append("hop %s: %s" % (name, answer(hop(n, status, links, vectors, a, nav))))
+def say_decide(n, status, links, vectors, s, d):
+    head = "decide n=%d, lengths %d %d %d, %d to %d" % (n, status, links, vectors, s, d)
+    out.append("%s: %s" % (head, answer(decide(n, STATUS_F[:status], SOUND[:links], VECTORS_F[:vectors], s, d))))
 
 
-def say_journey(name, n, status, links, picks, s, d, length=16, words=6):
-    trip, vectors, path = journey(n, status, links, length, picks, words, s, d)
+def say_hop(n, status, links, vectors, a, nav):
+    head = "hop n=%d, lengths %d %d %d, at %d by %d" % (n, status, links, vectors, a, nav)
+    out.append("%s: %s" % (head, answer(hop(n, STATUS_F[:status], SOUND[:links], VECTORS_F[:vectors], a, nav))))
+
+
+def say_trip(head, s, d, trip, vectors, path):
     came = "" if isinstance(trip, int) else ", came by %d" % trip[3]
-    out.append("journey %s: %s%s%s%s" % (name, answer(trip), came, lent("vectors", vectors), lent("path", path)))
+    out.append("%s, %d to %d: %s%s%s%s" % (head, s, d, answer(trip), came, lent("vectors", vectors), lent("path", path)))
 
 
-def say_open(name, data, link_places=6):
-    by, n, status, links = opened(data, 6, link_places)
-    out.append("open %s: %s%s%s" % (name, "refused %d" % by if by else "cube %d" % n, lent("status", status), lent("links", links)))
+def say_sized(n, vectors, picks, path, word, s, d):
+    trip, left, way = journey(n, STATUS_F[:16], words(16, {15: word}), vectors, [0] * picks, path, s, d)
+    head = "journey n=%d, vectors %d, picks %d, path %d, last word %d" % (n, vectors, picks, path, word)
+    say_trip(head, s, d, trip, padded(left, 17), padded(way, 17))
 
 
-def with_bytes(data, changes):
-    data = bytearray(data)
-    for at, byte in changes:
-        data[at] = byte
-    return bytes(data)
+def say_open(head, data, places=6, link_places=6):
+    by, n, status, links = opened(data, places, link_places)
+    said = "refused %d" % by if by else "cube %d" % n
+    out.append("open %s: %s%s%s" % (head, said, lent("status", padded(status, 6)), lent("links", padded(links, 6))))
+
+
+def say_made(length, kind, n, word):
+    data = bytes([length, 0, kind % 256, kind // 256, n]) + FOUR[5:15] + word.to_bytes(2, "little")
+    say_open("length %d, kind %d, n=%d, last word %d" % (length, kind, n, word), data)
+
+
+def say_rooms(places, link_places, word):
+    data = FOUR[:15] + bytes([word, 0])
+    say_open("over %d status bytes and %d link words, last word %d" % (places, link_places, word), data, places, link_places)
+
+
+def with_byte(data, at, byte):
+    return data[:at] + bytes([byte]) + data[at + 1 :]
 
 
 # ---- the cases
@@ -241,87 +260,89 @@ for dimension in (0, 1, 2, 10, 11, 4294967295):
 for s, d in ((1, 12), (1023, 0), (7, 7)):
     out.append("node %d to %d: address %d, weight %d, leads to %d" % (s, d, s ^ d, weight(s ^ d), s ^ (s ^ d)))
 
-say_fill("n=0", 0, STATUS_F, SOUND)
-say_fill("n=11", 11, STATUS_F, SOUND)
-say_fill("n=4294967295", 4294967295, STATUS_F, SOUND)
-say_fill("n=11, status of 15", 11, SHORT, SOUND)
-say_fill("n=3, slices of 16", 3, STATUS_F, SOUND)
-say_fill("status of 15", 4, SHORT, SOUND)
-say_fill("links of 17", 4, STATUS_F, LONG)
-say_fill("vectors of 15", 4, STATUS_F, SOUND, 15)
-say_fill("vectors of 15, a link word of 16", 4, STATUS_F, WIDE, 15)
-say_fill("a link word of 16", 4, STATUS_F, WIDE)
-say_fill("cabinet F", 4, STATUS_F, SOUND)
-say_fill("cabinet L", 4, STATUS_L, LINKS_L)
-
-say_decide("n=0", 0, STATUS_F, SOUND, VECTORS_F, 1, 12)
-say_decide("n=11", 11, STATUS_F, SOUND, VECTORS_F, 1, 12)
-say_decide("n=11, vectors of 17", 11, STATUS_F, SOUND, LONG, 1, 12)
-say_decide("status of 15", 4, SHORT, SOUND, VECTORS_F, 1, 12)
-say_decide("links of 17", 4, STATUS_F, LONG, VECTORS_F, 1, 12)
-say_decide("vectors of 17", 4, STATUS_F, SOUND, LONG, 1, 12)
-say_decide("vectors of 17, 16 to 12", 4, STATUS_F, SOUND, LONG, 16, 12)
-for s, d in ((16, 12), (1, 16), (3, 16), (3, 12), (3, 4), (3, 3), (1, 3), (1, 11), (0, 0), (1, 12), (0, 11), (2, 7)):
-    say_decide("F, %d to %d" % (s, d), 4, STATUS_F, SOUND, VECTORS_F, s, d)
-for word, s, d in ((8, 0, 15), (12, 0, 15), (0, 0, 15), (8, 0, 7), (0, 0, 1), (65520, 0, 1)):
-    say_decide("F, %d to %d, every vector %d" % (s, d, word), 4, STATUS_F, SOUND, [word] * 16, s, d)
-say_decide("F, 0 to 1, a link word of 16", 4, STATUS_F, WIDE, VECTORS_F, 0, 1)
-say_decide("L, 12 to 13", 4, STATUS_L, LINKS_L, VECTORS_F, 12, 13)
-
-say_hop("n=0", 0, STATUS_F, SOUND, VECTORS_F, 0, 12)
-say_hop("n=11", 11, STATUS_F, SOUND, VECTORS_F, 0, 12)
-say_hop("n=11, links of 17", 11, STATUS_F, LONG, VECTORS_F, 0, 12)
-say_hop("status of 15", 4, SHORT, SOUND, VECTORS_F, 0, 12)
-say_hop("links of 17", 4, STATUS_F, LONG, VECTORS_F, 0, 12)
-say_hop("vectors of 17", 4, STATUS_F, SOUND, LONG, 0, 12)
-say_hop("vectors of 17, at 16", 4, STATUS_F, SOUND, LONG, 16, 12)
-for a, nav in ((16, 12), (0, 16), (3, 16), (3, 12), (3, 5), (0, 3), (1, 7), (1, 10), (0, 0), (0, 12), (10, 13), (14, 1)):
-    say_hop("F, at %d by %d" % (a, nav), 4, STATUS_F, SOUND, VECTORS_F, a, nav)
-say_hop("L, at 12 by 1", 4, STATUS_L, LINKS_L, VECTORS_F, 12, 1)
-
-NONE = [0] * 5
-say_journey("n=0", 0, STATUS_F, SOUND, NONE, 1, 12)
-say_journey("n=11, status of 15", 11, SHORT, SOUND, NONE, 1, 12)
-say_journey("status of 15", 4, SHORT, SOUND, NONE, 1, 12)
-say_journey("links of 17", 4, STATUS_F, LONG, NONE, 1, 12)
-say_journey("vectors of 15", 4, STATUS_F, SOUND, NONE, 1, 12, length=15)
-say_journey("4 picks", 4, STATUS_F, SOUND, [0] * 4, 1, 12)
-say_journey("5 path words", 4, STATUS_F, SOUND, NONE, 1, 12, words=5)
-say_journey("5 path words, a link word of 16", 4, STATUS_F, WIDE, NONE, 1, 12, words=5)
-say_journey("a link word of 16", 4, STATUS_F, WIDE, NONE, 1, 12)
-say_journey("a link word of 16, 16 to 12", 4, STATUS_F, WIDE, NONE, 16, 12)
-for s, d in ((16, 12), (3, 16), (3, 4), (1, 3), (1, 11), (0, 0), (1, 12)):
-    say_journey("F, %d to %d" % (s, d), 4, STATUS_F, SOUND, NONE, s, d)
-say_journey("F, 1 to 12, picks 1 1 1 1 1", 4, STATUS_F, SOUND, [1] * 5, 1, 12)
-say_journey("F, 1 to 12, picks 255 254 253 252 251", 4, STATUS_F, SOUND, [255, 254, 253, 252, 251], 1, 12)
-say_journey("F, 15 to 0, picks 0 1 2 3 4 and one more", 4, STATUS_F, SOUND, [0, 1, 2, 3, 4, 5], 15, 0)
-say_journey("F, 0 to 7", 4, STATUS_F, SOUND, NONE, 0, 7)
-say_journey("L, 14 to 9", 4, STATUS_L, LINKS_L, NONE, 14, 9)
-say_journey("L, 12 to 13", 4, STATUS_L, LINKS_L, NONE, 12, 13)
-
-say_open("four boards", FOUR)
-say_open("nothing", b"")
-say_open("4 bytes", bytes([2, 0, 1, 0]))
-for name, changes in (
-    ("a length of 14", ((0, 14),)),
-    ("a length of 271", ((1, 1),)),
-    ("kind 2", ((2, 2),)),
-    ("kind 257", ((3, 1),)),
-    ("a length of 14, n=0", ((0, 14), (4, 0))),
-    ("kind 2, n=11", ((2, 2), (4, 11))),
-    ("n=0", ((4, 0),)),
-    ("n=11", ((4, 11),)),
-    ("n=255", ((4, 255),)),
-    ("n=3, boards for n=2", ((4, 3),)),
-    ("n=1, boards for n=2, a link word of 4", ((4, 1), (9, 4))),
+for case in (
+    (0, 16, 16, 16, 0),
+    (11, 16, 16, 16, 0),
+    (4294967295, 16, 16, 16, 0),
+    (11, 15, 16, 16, 0),
+    (3, 16, 16, 16, 0),
+    (4, 15, 16, 16, 0),
+    (4, 16, 17, 16, 0),
+    (4, 16, 16, 15, 0),
+    (4, 16, 16, 17, 16),
+    (4, 16, 16, 16, 16),
+    (4, 16, 16, 16, 32768),
+    (4, 16, 16, 16, 0),
+    (4, 16, 16, 16, 15),
 ):
-    say_open(name, with_bytes(FOUR, changes))
-say_open("three link words lent", FOUR, 3)
-say_open("three link words lent, a link word of 4", with_bytes(FOUR, ((9, 4),)), 3)
-say_open("a link word of 4", with_bytes(FOUR, ((9, 4),)))
-say_open("a link word of 256", with_bytes(FOUR, ((16, 1),)))
-say_open("a link word of 3", with_bytes(FOUR, ((15, 3),)))
-say_open("n=3 over six places", bytes([27, 0, 1, 0, 3] + [1] * 8 + [0] * 15 + [8]))
+    say_fill(*case)
+VECTORS_L = vectors_of(4, STATUS_L, LINKS_L)
+out.append("fill L: done" + lent("vectors", VECTORS_L))
+
+for case in ((0, 16, 16, 16), (11, 16, 16, 16), (11, 16, 16, 17), (4, 15, 16, 16), (4, 16, 17, 16), (4, 16, 16, 15)):
+    say_decide(*case, 1, 12)
+say_decide(4, 16, 16, 15, 16, 12)
+for s, d in ((16, 12), (1, 16), (3, 16), (3, 12), (3, 4), (3, 3), (1, 3), (1, 11), (0, 0), (1, 12), (0, 11), (2, 7)):
+    say_decide(4, 16, 16, 16, s, d)
+for vector, word, s, d in ((8, 0, 0, 15), (12, 0, 0, 15), (0, 0, 0, 15), (8, 0, 0, 7), (0, 0, 0, 1), (0, 1, 0, 1), (65520, 65520, 0, 1), (65535, 65535, 0, 1)):
+    said = answer(decide(4, STATUS_F[:16], [word] * 16, [vector] * 16, s, d))
+    out.append("decide n=4, every vector %d, every link word %d, %d to %d: %s" % (vector, word, s, d, said))
+for s, d in ((12, 13), (14, 9)):
+    out.append("decide L, %d to %d: %s" % (s, d, answer(decide(4, STATUS_L, LINKS_L, VECTORS_L, s, d))))
+
+for case in ((0, 16, 16, 16), (11, 16, 16, 16), (11, 16, 17, 16), (4, 15, 16, 16), (4, 16, 17, 16), (4, 16, 16, 15)):
+    say_hop(*case, 0, 12)
+say_hop(4, 16, 16, 15, 16, 12)
+for a, nav in ((16, 12), (0, 16), (3, 16), (3, 12), (3, 5), (0, 3), (1, 7), (1, 10), (0, 0), (0, 12), (10, 13), (14, 1)):
+    say_hop(4, 16, 16, 16, a, nav)
+for a, nav in ((12, 1), (12, 5)):
+    out.append("hop L, at %d by %d: %s" % (a, nav, answer(hop(4, STATUS_L, LINKS_L, VECTORS_L, a, nav))))
+
+for case in (
+    (0, 16, 5, 6, 0, 1, 12),
+    (11, 15, 5, 6, 0, 1, 12),
+    (3, 16, 5, 6, 0, 1, 12),
+    (4, 15, 5, 6, 0, 1, 12),
+    (4, 17, 5, 6, 0, 1, 12),
+    (4, 16, 4, 6, 0, 1, 12),
+    (4, 16, 5, 5, 0, 1, 12),
+    (4, 16, 5, 5, 16, 1, 12),
+    (4, 16, 5, 6, 16, 1, 12),
+    (4, 16, 5, 6, 16, 16, 12),
+    (4, 16, 5, 6, 0, 16, 12),
+    (4, 16, 5, 6, 0, 3, 16),
+    (4, 16, 5, 6, 0, 3, 4),
+    (4, 16, 5, 6, 0, 1, 3),
+    (4, 16, 5, 6, 0, 1, 11),
+    (4, 16, 17, 17, 0, 1, 12),
+):
+    say_sized(*case)
+for pick, s, d in ((0, 1, 11), (0, 0, 0), (0, 1, 12), (1, 1, 12), (255, 1, 12), (3, 15, 0), (0, 0, 11), (0, 0, 7), (1, 2, 7)):
+    say_trip("journey F, every pick %d" % pick, s, d, *journey(4, STATUS_F[:16], SOUND[:16], 16, [pick] * 5, 6, s, d))
+for s, d in ((14, 9), (12, 13), (5, 10)):
+    say_trip("journey L, picks 0 1 2 3 4 5", s, d, *journey(4, STATUS_L, LINKS_L, 16, [0, 1, 2, 3, 4, 5], 6, s, d))
+
+for length in (0, 4, 5, 16):
+    say_open("the example's first %d" % length, FOUR[:length])
+for case in (
+    (15, 1, 2, 0),
+    (14, 1, 2, 0),
+    (15, 2, 2, 0),
+    (15, 257, 2, 0),
+    (14, 1, 0, 0),
+    (15, 2, 11, 0),
+    (15, 1, 0, 0),
+    (15, 1, 11, 0),
+    (15, 1, 255, 4),
+    (15, 1, 3, 0),
+    (15, 1, 1, 4),
+    (15, 1, 2, 4),
+    (15, 1, 2, 256),
+    (15, 1, 2, 3),
+):
+    say_made(*case)
+for case in ((4, 4, 0), (3, 4, 0), (4, 3, 0), (4, 3, 4)):
+    say_rooms(*case)
 
 
 def fate(data):
@@ -331,14 +352,14 @@ def fate(data):
 out.append("record F: refused %d" % fate(RECORD_F))
 out.append("record F cut to 0..52 bytes: refused 10 %d" % sum(fate(RECORD_F[:k]) == 10 for k in range(53)))
 for change in (1, 8, 255):
-    fates = [fate(with_bytes(RECORD_F, ((k, RECORD_F[k] ^ change),))) for k in range(53)]
+    fates = [fate(with_byte(RECORD_F, k, RECORD_F[k] ^ change)) for k in range(53)]
     counts = tuple(fates.count(by) for by in (0, 1, 3, 10))
     out.append("record F, each byte xor %d: accepted %d, refused 1 %d, refused 3 %d, refused 10 %d" % ((change,) + counts))
 
 WU = cabinet(32, (13, 14, 17, 20, 21, 24, 25))
 out.append("Wu's 5-cube: vectors " + " ".join(map(str, vectors_of(5, WU, [0] * 32))))
 CLASSES = bytes([27, 0, 1, 0, 3, 0, 1, 4, 5, 253, 254, 255, 2] + [0] * 16)
-out.append("listing a board of every class: ")
+out.append("listing of a board of every class:")
 out += listing(CLASSES)
 
 for n in range(1, 11):

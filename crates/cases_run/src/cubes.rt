@@ -80,17 +80,16 @@ fn wu() {
     say::say(b"\n");
 }
 
-// Lists a record.
-fn list(name: &[u8], bytes: &[u8]) {
+// Lists the boards of every class.
+fn classes() {
     let mut out = text::buffer();
-    let length = text::listing(bytes, &mut out);
-    say::head(b"listing", name);
-    say::say(b"\n");
+    let length = text::listing(&CLASSES, &mut out);
+    say::say(b"listing of a board of every class:\n");
     io::write_all(STDOUT_FILENO, &out[..length]);
 }
 
 // All of them.
 pub fn all() {
     wu();
-    list(b"a board of every class", &CLASSES);
+    classes();
 }

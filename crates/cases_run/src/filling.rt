@@ -2,70 +2,63 @@
 use crate::cabinets;
 use crate::say;
 use vectors::Filled;
+ghost use Prim.Native.Nat.{_≤_};
 
-// Prints what Fill answers.
+// Prints what Fill answers, and the lent vectors.
 fn answer(filled: Filled) {
     match filled {
-        Filled::Done => say::say(b"done"),
-        Filled::Refused(by) => say::refused(by),
+        Filled::Done => say::say(b": done"),
+        Filled::Refused(by) => {
+            say::say(b": ");
+            say::refused(by);
+        },
     }
 }
 
-// Tells what came of a call.
-fn tell(name: &[u8], filled: Filled, vectors: &[u16]) {
-    say::head(b"fill", name);
+// Fills in cabinet F over slices of these lengths, with this word for node 15.
+fn fill(n: u32, status: usize, links: usize, vectors: usize, word: u16)
+    requires { ⌜ (status ≤ 17) × (links ≤ 17) × (vectors ≤ 17) ⌝ }
+{
+    let mut marks = cabinets::SOUND;
+    marks[15] = word;
+    let mut lent = [say::LENT; 17];
+    let filled = vectors::fill(
+        n,
+        &cabinets::STATUS_F[0..status],
+        &marks[0..links],
+        &mut lent[0..vectors],
+    );
+    say::sized(b"fill", n, status, links, vectors);
+    say::number(b", last word ", word as u64);
     answer(filled);
-    say::lent(b", vectors", vectors);
+    say::partly_lent(b", vectors", &lent);
     say::say(b"\n");
 }
 
-// Fills 16 lent vectors and tells what came of it.
-fn fill(name: &[u8], n: u32, status: &[u8], links: &[u16]) {
-    let mut vectors = [say::LENT; 16];
-    let filled = vectors::fill(n, status, links, &mut vectors);
-    tell(name, filled, &vectors);
-}
-
-// The same with 15 lent vectors.
-fn fill_short(name: &[u8], status: &[u8], links: &[u16]) {
-    let mut vectors = [say::LENT; 15];
-    let filled = vectors::fill(4, status, links, &mut vectors);
-    tell(name, filled, &vectors);
+// Fills cabinet L.
+fn cabinet_l() {
+    let mut lent = [say::LENT; 16];
+    let filled = vectors::fill(4, &cabinets::STATUS_L, &cabinets::LINKS_L, &mut lent);
+    say::say(b"fill L");
+    answer(filled);
+    say::lent(b", vectors", &lent);
+    say::say(b"\n");
 }
 
 // All of them.
 pub fn all() {
-    let short = [1u8; 15];
-    let long = [0u16; 17];
-    fill(b"n=0", 0, &cabinets::STATUS_F, &cabinets::SOUND);
-    fill(b"n=11", 11, &cabinets::STATUS_F, &cabinets::SOUND);
-    fill(
-        b"n=4294967295",
-        4294967295,
-        &cabinets::STATUS_F,
-        &cabinets::SOUND,
-    );
-    fill(b"n=11, status of 15", 11, &short, &cabinets::SOUND);
-    fill(
-        b"n=3, slices of 16",
-        3,
-        &cabinets::STATUS_F,
-        &cabinets::SOUND,
-    );
-    fill(b"status of 15", 4, &short, &cabinets::SOUND);
-    fill(b"links of 17", 4, &cabinets::STATUS_F, &long);
-    fill_short(b"vectors of 15", &cabinets::STATUS_F, &cabinets::SOUND);
-    fill_short(
-        b"vectors of 15, a link word of 16",
-        &cabinets::STATUS_F,
-        &cabinets::WIDE,
-    );
-    fill(
-        b"a link word of 16",
-        4,
-        &cabinets::STATUS_F,
-        &cabinets::WIDE,
-    );
-    fill(b"cabinet F", 4, &cabinets::STATUS_F, &cabinets::SOUND);
-    fill(b"cabinet L", 4, &cabinets::STATUS_L, &cabinets::LINKS_L);
+    fill(0, 16, 16, 16, 0);
+    fill(11, 16, 16, 16, 0);
+    fill(4294967295, 16, 16, 16, 0);
+    fill(11, 15, 16, 16, 0);
+    fill(3, 16, 16, 16, 0);
+    fill(4, 15, 16, 16, 0);
+    fill(4, 16, 17, 16, 0);
+    fill(4, 16, 16, 15, 0);
+    fill(4, 16, 16, 17, 16);
+    fill(4, 16, 16, 16, 16);
+    fill(4, 16, 16, 16, 32768);
+    fill(4, 16, 16, 16, 0);
+    fill(4, 16, 16, 16, 15);
+    cabinet_l();
 }

@@ -4,123 +4,82 @@ use crate::say;
 use cube::Nav;
 use cube::Node;
 use routing::Step;
+ghost use Prim.Native.Nat.{_≤_};
 
-// Prints what Hop answers.
-fn answer(step: Step) {
+// Prints where a message is, and what Hop answers.
+fn answer(a: u16, nav: u16, step: Step) {
+    say::number(b", at ", a as u64);
+    say::number(b" by ", nav as u64);
+    say::say(b": ");
     match step {
         Step::Arrived => say::say(b"arrived"),
         Step::Offered(mask) => say::number(b"mask ", mask as u64),
         Step::Refused(by) => say::refused(by),
     }
-}
-
-// Hops over these vectors and tells the answer.
-fn hop(name: &[u8], n: u32, status: &[u8], links: &[u16], vectors: &[u16], a: u16, nav: u16) {
-    let step = routing::hop(n, status, links, vectors, Node(a), Nav(nav));
-    say::head(b"hop", name);
-    answer(step);
     say::say(b"\n");
 }
 
-// Hops in cabinet F, over its vectors.
-fn in_f(name: &[u8], a: u16, nav: u16) {
-    hop(
-        name,
-        4,
-        &cabinets::STATUS_F,
-        &cabinets::SOUND,
-        &cabinets::VECTORS_F,
-        a,
-        nav,
+// Hops in cabinet F over slices of these lengths.
+fn sized(n: u32, status: usize, links: usize, vectors: usize, a: u16, nav: u16)
+    requires { ⌜ (status ≤ 17) × (links ≤ 17) × (vectors ≤ 17) ⌝ }
+{
+    let step = routing::hop(
+        n,
+        &cabinets::STATUS_F[0..status],
+        &cabinets::SOUND[0..links],
+        &cabinets::VECTORS_F[0..vectors],
+        Node(a),
+        Nav(nav),
     );
+    say::sized(b"hop", n, status, links, vectors);
+    answer(a, nav, step);
+}
+
+// Hops in cabinet F over its vectors.
+fn in_f(a: u16, nav: u16) {
+    sized(4, 16, 16, 16, a, nav);
+}
+
+// Hops in cabinet L over its vectors.
+fn in_l(a: u16, nav: u16) {
+    let step = routing::hop(
+        4,
+        &cabinets::STATUS_L,
+        &cabinets::LINKS_L,
+        &cabinets::VECTORS_L,
+        Node(a),
+        Nav(nav),
+    );
+    say::say(b"hop L");
+    answer(a, nav, step);
+}
+
+// The refusals before the rules.
+fn refusals() {
+    sized(0, 16, 16, 16, 0, 12);
+    sized(11, 16, 16, 16, 0, 12);
+    sized(11, 16, 17, 16, 0, 12);
+    sized(4, 15, 16, 16, 0, 12);
+    sized(4, 16, 17, 16, 0, 12);
+    sized(4, 16, 16, 15, 0, 12);
+    sized(4, 16, 16, 15, 16, 12);
+    in_f(16, 12);
+    in_f(0, 16);
+    in_f(3, 16);
+    in_f(3, 12);
+    in_f(3, 5);
+    in_f(0, 3);
+    in_f(1, 7);
 }
 
 // All of them.
 pub fn all() {
-    let status = [1u8; 15];
-    let vectors = [0u16; 17];
-    hop(
-        b"n=0",
-        0,
-        &cabinets::STATUS_F,
-        &cabinets::SOUND,
-        &cabinets::VECTORS_F,
-        0,
-        12,
-    );
-    hop(
-        b"n=11",
-        11,
-        &cabinets::STATUS_F,
-        &cabinets::SOUND,
-        &cabinets::VECTORS_F,
-        0,
-        12,
-    );
-    hop(
-        b"n=11, links of 17",
-        11,
-        &cabinets::STATUS_F,
-        &vectors,
-        &cabinets::VECTORS_F,
-        0,
-        12,
-    );
-    hop(
-        b"status of 15",
-        4,
-        &status,
-        &cabinets::SOUND,
-        &cabinets::VECTORS_F,
-        0,
-        12,
-    );
-    hop(
-        b"links of 17",
-        4,
-        &cabinets::STATUS_F,
-        &vectors,
-        &cabinets::VECTORS_F,
-        0,
-        12,
-    );
-    hop(
-        b"vectors of 17",
-        4,
-        &cabinets::STATUS_F,
-        &cabinets::SOUND,
-        &vectors,
-        0,
-        12,
-    );
-    hop(
-        b"vectors of 17, at 16",
-        4,
-        &cabinets::STATUS_F,
-        &cabinets::SOUND,
-        &vectors,
-        16,
-        12,
-    );
-    in_f(b"F, at 16 by 12", 16, 12);
-    in_f(b"F, at 0 by 16", 0, 16);
-    in_f(b"F, at 3 by 16", 3, 16);
-    in_f(b"F, at 3 by 12", 3, 12);
-    in_f(b"F, at 3 by 5", 3, 5);
-    in_f(b"F, at 0 by 3", 0, 3);
-    in_f(b"F, at 1 by 7", 1, 7);
-    in_f(b"F, at 1 by 10", 1, 10);
-    in_f(b"F, at 0 by 0", 0, 0);
-    in_f(b"F, at 0 by 12", 0, 12);
-    in_f(b"F, at 10 by 13", 10, 13);
-    in_f(b"F, at 14 by 1", 14, 1);
-    hop(
-        b"L, at 12 by 1",
-        4,
-        &cabinets::STATUS_L,
-        &cabinets::LINKS_L,
-        &cabinets::VECTORS_F,
-        12,
-        1,
-    );
+    refusals();
+    in_f(1, 10);
+    in_f(0, 0);
+    in_f(0, 12);
+    in_f(10, 13);
+    in_f(14, 1);
+    in_l(12, 1);
+    in_l(12, 5);
 }

@@ -3,6 +3,7 @@ use crate::cabinets;
 use crate::say;
 use cube::Node;
 use journey::Trip;
+ghost use Prim.Native.Nat.{_≤_};
 
 // Prints what Journey answers.
 fn answer(trip: Trip) {
@@ -15,180 +16,128 @@ fn answer(trip: Trip) {
     }
 }
 
-// Tells what came of a call.
-fn tell(name: &[u8], trip: Trip, vectors: &[u16], path: &[u16]) {
-    say::head(b"journey", name);
+// Prints the dimension, how much is lent, and the word of node 15.
+fn head(n: u32, vectors: usize, picks: usize, path: usize, word: u16) {
+    say::job(b"journey", n);
+    say::number(b", vectors ", vectors as u64);
+    say::number(b", picks ", picks as u64);
+    say::number(b", path ", path as u64);
+    say::number(b", last word ", word as u64);
+}
+
+// Prints source and destination, and what Journey answers.
+fn tell(s: u16, d: u16, trip: Trip) {
+    say::ends(s, d);
+    say::say(b": ");
     answer(trip);
+}
+
+// Prints the lent vectors and the lent path.
+fn left(vectors: &[u16], path: &[u16]) {
     say::lent(b", vectors", vectors);
     say::lent(b", path", path);
     say::say(b"\n");
 }
 
-// Goes from s to d over 16 lent vectors and 6 path words, and tells what came of it.
-fn go(name: &[u8], n: u32, status: &[u8], links: &[u16], picks: &[u8], s: u16, d: u16) {
+// Goes in cabinet F over this many vectors, picks and path words, with this word for node 15.
+fn sized(n: u32, vectors: usize, picks: usize, path: usize, word: u16, s: u16, d: u16)
+    requires { ⌜ (vectors ≤ 17) × (picks ≤ 17) × (path ≤ 17) ⌝ }
+{
+    let mut marks = [0u16; 16];
+    marks[15] = word;
+    let zeros = [0u8; 17];
+    let mut lent = [say::LENT; 17];
+    let mut way = [say::LENT; 17];
+    let trip = journey::journey(
+        n,
+        &cabinets::STATUS_F[0..16],
+        &marks,
+        &mut lent[0..vectors],
+        &zeros[0..picks],
+        &mut way[0..path],
+        Node(s),
+        Node(d),
+    );
+    head(n, vectors, picks, path, word);
+    tell(s, d, trip);
+    say::partly_lent(b", vectors", &lent);
+    say::partly_lent(b", path", &way);
+    say::say(b"\n");
+}
+
+// Goes in cabinet F, every pick the same.
+fn in_f(pick: u8, s: u16, d: u16) {
+    let picks = [pick; 5];
     let mut vectors = [say::LENT; 16];
     let mut path = [say::LENT; 6];
     let trip = journey::journey(
-        n,
-        status,
-        links,
+        4,
+        &cabinets::STATUS_F[0..16],
+        &cabinets::SOUND[0..16],
         &mut vectors,
-        picks,
+        &picks,
         &mut path,
         Node(s),
         Node(d),
     );
-    tell(name, trip, &vectors, &path);
+    say::number(b"journey F, every pick ", pick as u64);
+    tell(s, d, trip);
+    left(&vectors, &path);
 }
 
-// The same in cabinet F with 15 vectors.
-fn short_vectors(name: &[u8], s: u16) {
-    let mut vectors = [say::LENT; 15];
+// Goes in cabinet L, with picks that differ and one more than asked.
+fn in_l(s: u16, d: u16) {
+    let picks = [0u8, 1, 2, 3, 4, 5];
+    let mut vectors = [say::LENT; 16];
     let mut path = [say::LENT; 6];
     let trip = journey::journey(
         4,
-        &cabinets::STATUS_F,
-        &cabinets::SOUND,
+        &cabinets::STATUS_L,
+        &cabinets::LINKS_L,
         &mut vectors,
-        b"\0\0\0\0\0",
+        &picks,
         &mut path,
         Node(s),
-        Node(12),
+        Node(d),
     );
-    tell(name, trip, &vectors, &path);
-}
-
-// The same in cabinet F with 5 path words.
-fn short_path(name: &[u8], links: &[u16]) {
-    let mut vectors = [say::LENT; 16];
-    let mut path = [say::LENT; 5];
-    let trip = journey::journey(
-        4,
-        &cabinets::STATUS_F,
-        links,
-        &mut vectors,
-        b"\0\0\0\0\0",
-        &mut path,
-        Node(1),
-        Node(12),
-    );
-    tell(name, trip, &vectors, &path);
-}
-
-// In cabinet F with these picks.
-fn in_f(name: &[u8], picks: &[u8], s: u16, d: u16) {
-    go(name, 4, &cabinets::STATUS_F, &cabinets::SOUND, picks, s, d);
+    say::say(b"journey L, picks 0 1 2 3 4 5");
+    tell(s, d, trip);
+    left(&vectors, &path);
 }
 
 // The refusals before filling.
 fn refusals() {
-    let short = [1u8; 15];
-    let long = [0u16; 17];
-    go(
-        b"n=0",
-        0,
-        &cabinets::STATUS_F,
-        &cabinets::SOUND,
-        b"\0\0\0\0\0",
-        1,
-        12,
-    );
-    go(
-        b"n=11, status of 15",
-        11,
-        &short,
-        &cabinets::SOUND,
-        b"\0\0\0\0\0",
-        1,
-        12,
-    );
-    go(
-        b"status of 15",
-        4,
-        &short,
-        &cabinets::SOUND,
-        b"\0\0\0\0\0",
-        1,
-        12,
-    );
-    go(
-        b"links of 17",
-        4,
-        &cabinets::STATUS_F,
-        &long,
-        b"\0\0\0\0\0",
-        1,
-        12,
-    );
-    short_vectors(b"vectors of 15", 1);
-    in_f(b"4 picks", b"\0\0\0\0", 1, 12);
-    short_path(b"5 path words", &cabinets::SOUND);
-    short_path(b"5 path words, a link word of 16", &cabinets::WIDE);
-    go(
-        b"a link word of 16",
-        4,
-        &cabinets::STATUS_F,
-        &cabinets::WIDE,
-        b"\0\0\0\0\0",
-        1,
-        12,
-    );
-    go(
-        b"a link word of 16, 16 to 12",
-        4,
-        &cabinets::STATUS_F,
-        &cabinets::WIDE,
-        b"\0\0\0\0\0",
-        16,
-        12,
-    );
-    in_f(b"F, 16 to 12", b"\0\0\0\0\0", 16, 12);
-    in_f(b"F, 3 to 16", b"\0\0\0\0\0", 3, 16);
-    in_f(b"F, 3 to 4", b"\0\0\0\0\0", 3, 4);
-    in_f(b"F, 1 to 3", b"\0\0\0\0\0", 1, 3);
+    sized(0, 16, 5, 6, 0, 1, 12);
+    sized(11, 15, 5, 6, 0, 1, 12);
+    sized(3, 16, 5, 6, 0, 1, 12);
+    sized(4, 15, 5, 6, 0, 1, 12);
+    sized(4, 17, 5, 6, 0, 1, 12);
+    sized(4, 16, 4, 6, 0, 1, 12);
+    sized(4, 16, 5, 5, 0, 1, 12);
+    sized(4, 16, 5, 5, 16, 1, 12);
+    sized(4, 16, 5, 6, 16, 1, 12);
+    sized(4, 16, 5, 6, 16, 16, 12);
+    sized(4, 16, 5, 6, 0, 16, 12);
+    sized(4, 16, 5, 6, 0, 3, 16);
+    sized(4, 16, 5, 6, 0, 3, 4);
+    sized(4, 16, 5, 6, 0, 1, 3);
 }
 
 // All of them.
 pub fn all() {
     refusals();
-    in_f(b"F, 1 to 11", b"\0\0\0\0\0", 1, 11);
-    in_f(b"F, 0 to 0", b"\0\0\0\0\0", 0, 0);
-    in_f(b"F, 1 to 12", b"\0\0\0\0\0", 1, 12);
-    in_f(
-        b"F, 1 to 12, picks 1 1 1 1 1",
-        b"\x01\x01\x01\x01\x01",
-        1,
-        12,
-    );
-    in_f(
-        b"F, 1 to 12, picks 255 254 253 252 251",
-        b"\xff\xfe\xfd\xfc\xfb",
-        1,
-        12,
-    );
-    in_f(
-        b"F, 15 to 0, picks 0 1 2 3 4 and one more",
-        b"\x00\x01\x02\x03\x04\x05",
-        15,
-        0,
-    );
-    in_f(b"F, 0 to 7", b"\0\0\0\0\0", 0, 7);
-    go(
-        b"L, 14 to 9",
-        4,
-        &cabinets::STATUS_L,
-        &cabinets::LINKS_L,
-        b"\0\0\0\0\0",
-        14,
-        9,
-    );
-    go(
-        b"L, 12 to 13",
-        4,
-        &cabinets::STATUS_L,
-        &cabinets::LINKS_L,
-        b"\0\0\0\0\0",
-        12,
-        13,
-    );
+    sized(4, 16, 5, 6, 0, 1, 11);
+    sized(4, 16, 17, 17, 0, 1, 12);
+    in_f(0, 1, 11);
+    in_f(0, 0, 0);
+    in_f(0, 1, 12);
+    in_f(1, 1, 12);
+    in_f(255, 1, 12);
+    in_f(3, 15, 0);
+    in_f(0, 0, 11);
+    in_f(0, 0, 7);
+    in_f(1, 2, 7);
+    in_l(14, 9);
+    in_l(12, 13);
+    in_l(5, 10);
 }

@@ -1,9 +1,7 @@
 // Open: its own order of refusals, and what it writes.
 use crate::say;
 use record::Opened;
-ghost use mathlib.Core.Path.{_≡_};
-ghost use Prim.Native.Nat.{_<_};
-ghost use lib.ListN.{length};
+ghost use Prim.Native.Nat.{_≤_};
 
 // Document 01's example.
 const FOUR: [u8; 17] = [15, 0, 1, 0, 2, 1, 1, 0, 1, 0, 0, 0, 0, 0, 0, 0, 0];
@@ -11,8 +9,11 @@ const FOUR: [u8; 17] = [15, 0, 1, 0, 2, 1, 1, 0, 1, 0, 0, 0, 0, 0, 0, 0, 0];
 // Prints what Open answers.
 fn answer(opened: Opened) {
     match opened {
-        Opened::Cube(n) => say::number(b"cube ", n as u64),
-        Opened::Refused(by) => say::refused(by),
+        Opened::Cube(n) => say::number(b": cube ", n as u64),
+        Opened::Refused(by) => {
+            say::say(b": ");
+            say::refused(by);
+        },
     }
 }
 
@@ -28,81 +29,82 @@ fn wide(bytes: [u8; 6]) -> [u16; 6] {
     ]
 }
 
-// Tells what came of a call.
-fn tell(name: &[u8], opened: Opened, status: &[u16], links: &[u16]) {
-    say::head(b"open", name);
-    answer(opened);
-    say::lent(b", status", status);
+// Prints the lent status bytes and link words.
+fn left(status: [u8; 6], links: &[u16; 6]) {
+    say::lent(b", status", &wide(status));
     say::lent(b", links", links);
     say::say(b"\n");
 }
 
-// Opens some bytes over six status bytes and six link words, and tells what came of it.
-fn open(name: &[u8], bytes: &[u8]) {
+// Opens some bytes over this many of six status bytes and six link words, and prints what came of it.
+fn open(bytes: &[u8], boards: usize, marks: usize)
+    requires { ⌜ (boards ≤ 6) × (marks ≤ 6) ⌝ }
+{
     let mut status = [99u8; 6];
     let mut links = [say::LENT; 6];
-    let opened = record::open(bytes, &mut status, &mut links);
-    tell(name, opened, &wide(status), &links);
+    let opened = record::open(bytes, &mut status[0..boards], &mut links[0..marks]);
+    answer(opened);
+    left(status, &links);
 }
 
-// The same with three link words.
-fn short_links(name: &[u8], bytes: &[u8]) {
-    let mut status = [99u8; 6];
-    let mut links = [say::LENT; 3];
-    let opened = record::open(bytes, &mut status, &mut links);
-    tell(name, opened, &wide(status), &links);
-}
-
-// A record of 17 bytes with one of them changed.
-fn with(bytes: [u8; 17], at: usize, byte: u8) -> [u8; 17]
-    requires { ⌜ at < 17 ⌝ }
-    ensures { λ r. ⌜ 17 ≡ length r ⌝ }
+// Opens the first bytes of the example.
+fn cut(length: usize)
+    requires { ⌜ length ≤ 17 ⌝ }
 {
-    let mut copy = bytes;
-    copy[at] = byte;
-    copy
+    say::number(b"open the example's first ", length as u64);
+    open(&FOUR[0..length], 6, 6);
 }
 
-// The example with one byte changed.
-fn changed(name: &[u8], at: usize, byte: u8)
-    requires { ⌜ at < 17 ⌝ }
+// Opens the example over this many status bytes and link words, with this word for node 3.
+fn rooms(boards: usize, marks: usize, word: u8)
+    requires { ⌜ (boards ≤ 6) × (marks ≤ 6) ⌝ }
 {
-    open(name, &with(FOUR, at, byte));
+    let mut bytes = FOUR;
+    bytes[15] = word;
+    say::number(b"open over ", boards as u64);
+    say::number(b" status bytes and ", marks as u64);
+    say::number(b" link words, last word ", word as u64);
+    open(&bytes, boards, marks);
 }
 
-// The example with two bytes changed.
-fn changed_twice(name: &[u8], at: usize, byte: u8, next: usize, other: u8)
-    requires { ⌜ (at < 17) × (next < 17) ⌝ }
-{
-    open(name, &with(with(FOUR, at, byte), next, other));
+// Opens the example with these fields, given by their bytes.
+fn made(length: u8, kind: u8, high: u8, n: u8, word: u8, top: u8) {
+    let mut bytes = FOUR;
+    bytes[0] = length;
+    bytes[2] = kind;
+    bytes[3] = high;
+    bytes[4] = n;
+    bytes[15] = word;
+    bytes[16] = top;
+    say::number(b"open length ", length as u64);
+    say::number(b", kind ", kind as u64 + 256 * high as u64);
+    say::number(b", n=", n as u64);
+    say::number(b", last word ", word as u64 + 256 * top as u64);
+    open(&bytes, 6, 6);
 }
 
 // All of them.
 pub fn all() {
-    open(b"four boards", &FOUR);
-    open(b"nothing", b"");
-    open(b"4 bytes", b"\x02\0\x01\0");
-    changed(b"a length of 14", 0, 14);
-    changed(b"a length of 271", 1, 1);
-    changed(b"kind 2", 2, 2);
-    changed(b"kind 257", 3, 1);
-    changed_twice(b"a length of 14, n=0", 0, 14, 4, 0);
-    changed_twice(b"kind 2, n=11", 2, 2, 4, 11);
-    changed(b"n=0", 4, 0);
-    changed(b"n=11", 4, 11);
-    changed(b"n=255", 4, 255);
-    changed(b"n=3, boards for n=2", 4, 3);
-    changed_twice(b"n=1, boards for n=2, a link word of 4", 4, 1, 9, 4);
-    short_links(b"three link words lent", &FOUR);
-    short_links(
-        b"three link words lent, a link word of 4",
-        &with(FOUR, 9, 4),
-    );
-    changed(b"a link word of 4", 9, 4);
-    changed(b"a link word of 256", 16, 1);
-    changed(b"a link word of 3", 15, 3);
-    open(
-        b"n=3 over six places",
-        b"\x1b\0\x01\0\x03\x01\x01\x01\x01\x01\x01\x01\x01\0\0\0\0\0\0\0\0\0\0\0\0\0\0\0\x08",
-    );
+    cut(0);
+    cut(4);
+    cut(5);
+    cut(16);
+    made(15, 1, 0, 2, 0, 0);
+    made(14, 1, 0, 2, 0, 0);
+    made(15, 2, 0, 2, 0, 0);
+    made(15, 1, 1, 2, 0, 0);
+    made(14, 1, 0, 0, 0, 0);
+    made(15, 2, 0, 11, 0, 0);
+    made(15, 1, 0, 0, 0, 0);
+    made(15, 1, 0, 11, 0, 0);
+    made(15, 1, 0, 255, 4, 0);
+    made(15, 1, 0, 3, 0, 0);
+    made(15, 1, 0, 1, 4, 0);
+    made(15, 1, 0, 2, 4, 0);
+    made(15, 1, 0, 2, 0, 1);
+    made(15, 1, 0, 2, 3, 0);
+    rooms(4, 4, 0);
+    rooms(3, 4, 0);
+    rooms(4, 3, 0);
+    rooms(4, 3, 4);
 }

@@ -17,12 +17,24 @@ pub fn number(words: &[u8], value: u64) {
     io::print_decimal(STDOUT_FILENO, value);
 }
 
-// Prints a job, a case and a colon.
-pub fn head(job: &[u8], name: &[u8]) {
-    say(job);
-    say(b" ");
+// Prints a job and its dimension.
+pub fn job(name: &[u8], n: u32) {
     say(name);
-    say(b": ");
+    number(b" n=", n as u64);
+}
+
+// Prints a job, its dimension, and the lengths of status, links and vectors.
+pub fn sized(name: &[u8], n: u32, status: usize, links: usize, vectors: usize) {
+    job(name, n);
+    number(b", lengths ", status as u64);
+    number(b" ", links as u64);
+    number(b" ", vectors as u64);
+}
+
+// Prints source and destination.
+pub fn ends(s: u16, d: u16) {
+    number(b", ", s as u64);
+    number(b" to ", d as u64);
 }
 
 // Prints a refusal.
@@ -36,7 +48,7 @@ fn word(value: u16) {
 }
 
 // Prints words of 16 bits.
-pub fn words(values: &[u16]) {
+fn words(values: &[u16]) {
     let mut i: usize = 0;
     while i < values.len() {
         word(values[i]);
@@ -64,6 +76,11 @@ pub fn lent(name: &[u8], values: &[u16]) {
         return;
     }
     words(values);
+}
+
+// The same of 17 words of which a part was lent.
+pub fn partly_lent(name: &[u8], values: &[u16; 17]) {
+    lent(name, values);
 }
 
 // Prints a mask and the hops.
