@@ -1,14 +1,14 @@
 -- The laws of single bits: of an exclusive or, of a remainder, of a power, of a neighbour.
 use mathlib.Core.Path.{_≡_, refl, ap, sym, _∙_}
-use mathlib.Core.Bool.{Bool, true, false, not, xor, false≢true}
-use Prim.Native.Nat.{ℕ, zero, suc, _+_, _*_, _-_, _/_, _%_, _^_, _≤_, _<_}
+use mathlib.Core.Bool.{Bool, true, false, not, xor, false≢true, _&&_}
+use Prim.Native.Nat.{ℕ, zero, suc, min, _+_, _*_, _-_, _/_, _%_, _^_, _≤_, _<_}
 use native.Mathlib.Nat.{div-eq-of-lt, mod-eq-of-lt, lt-of-lt-of-le, div-self, one-mul, mul-mod-left}
 use native.Mathlib.Omega.{arith}
 use mathlib.Core.Logic.{⊎-elim}
 use borrow.Author.Tests.{le-leb}
 use lib.Dec.{eqb}
 use Rattle.cube.proofs.Order.{lt-or-ge}
-use lib.Bits.{bitXor, differ, xor-step, xor-shr, xor-lt, xor-zero-r}
+use lib.Bits.{bitXor, bitAnd, differ, and-step, and-shr, xor-step, xor-shr, xor-lt, xor-zero-r}
 use lib.Pow.{pow-pos, pow-mono, pow-lt, pow-add, field, mod-mod-pow}
 use Rattle.cube.specs.Bits.{bit, place, flip, crossed}
 
@@ -38,6 +38,27 @@ bit-xor a b (suc i) =
     ap (λ (x : ℕ). eqb (x % 2) 1) (xor-shr a b i)
     ∙ ap (λ (x : ℕ). eqb x 1) (xor-digit (a / 2 ^ i) (b / 2 ^ i))
     ∙ differ-digit (a / 2 ^ i % 2) (b / 2 ^ i % 2) (omega arith) (omega arith)
+
+-- a digit of a conjunction is 1 where both digits are
+min-digit : (u v : ℕ) → u < 2 → v < 2 → eqb (min u v) 1 ≡ (eqb u 1 && eqb v 1)
+min-digit zero zero hu hv = refl
+min-digit zero (suc zero) hu hv = refl
+min-digit zero (suc (suc v)) hu hv = absurd (omega arith)
+min-digit (suc zero) zero hu hv = refl
+min-digit (suc zero) (suc zero) hu hv = refl
+min-digit (suc zero) (suc (suc v)) hu hv = absurd (omega arith)
+min-digit (suc (suc u)) v hu hv = absurd (omega arith)
+
+and-digit : (a b : ℕ) → bitAnd a b % 2 ≡ min (a % 2) (b % 2)
+and-digit a b = omega (arith, and-step a b)
+
+pub bit-and : (a b i : ℕ) → bit (bitAnd a b) i ≡ (bit a i && bit b i)
+unfolding bit
+bit-and a b zero = refl
+bit-and a b (suc i) =
+    ap (λ (x : ℕ). eqb (x % 2) 1) (and-shr a b i)
+    ∙ ap (λ (x : ℕ). eqb x 1) (and-digit (a / 2 ^ i) (b / 2 ^ i))
+    ∙ min-digit (a / 2 ^ i % 2) (b / 2 ^ i % 2) (omega arith) (omega arith)
 
 -- the lower bits of a remainder by a power are the number's own
 pub bit-mod : (x n i : ℕ) → i ≤ n → bit (x % 2 ^ n) i ≡ bit x i

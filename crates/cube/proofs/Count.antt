@@ -1,20 +1,20 @@
 -- The laws of `pack`, `count`, `any`, `ranked` and `weight`. "For i from 1 to n" is said of `suc i` with i below n.
 use mathlib.Core.Path.{_≡_, refl, ap, ap₂, sym, _∙_}
-use mathlib.Core.Bool.{Bool, true, false, not, xor, cond, _&&_, _||_, and-false, or-true, or-false, true≢false, false≢true}
+use mathlib.Core.Bool.{Bool, true, false, not, xor, cond, _&&_, _||_, and-false, and-comm, or-true, or-false, true≢false, false≢true}
 use mathlib.Core.Logic.{⊎-elim}
 use Prim.Native.Nat.{ℕ, zero, suc, _+_, _*_, _-_, _/_, _%_, _^_, _≤_, _<_}
 use native.Mathlib.Nat.{mod-eq-of-lt, mod-one, mod-lt, le-trans, le-of-eq, lt-of-le-of-lt, lt-of-lt-of-le, add-zero, eq-zero-or-pos, pow-succ'}
 use native.Mathlib.Numerals.{add-one, add-two, add-three, add-four, add-five, one-add}
 use native.Mathlib.Omega.{arith}
 use borrow.Author.Tests.{lt-ltb, eq-eqb, ne-eqb, eqb-false}
-use lib.Bits.{bitXor, xor-lt}
+use lib.Bits.{bitXor, bitAnd, and-le-l, xor-lt}
 use lib.Dec.{eqb, ltb}
 use lib.Count.{ones, ones-cat}
 use lib.Pow.{pow-pos, pow-lt, pow-mono, high, low, mod-pow-add}
 use Rattle.cube.specs.Bits.{bit, place, flip, weight}
 use Rattle.cube.specs.Count.{one, pack, count, any, ranked}
 use Rattle.cube.proofs.Order.{lt-or-ge, eq-or-ne}
-use Rattle.cube.proofs.Bits.{bit-shift, bit-zero, bit-xor, bit-mod, bit-high, bit-flip, bit-flip-other, flip-lt}
+use Rattle.cube.proofs.Bits.{bit-and, bit-shift, bit-zero, bit-xor, bit-mod, bit-high, bit-flip, bit-flip-other, flip-lt}
 
 pub one-le : (b : Bool) → one b ≤ 1
 one-le true = omega arith
@@ -125,6 +125,12 @@ pack-own x n h = pack-bit x n ∙ mod-eq-of-lt h
 -- two words below 2^n with the same bits are equal
 pub bit-ext : (x y n : ℕ) → x < 2 ^ n → y < 2 ^ n → ((i : ℕ) → i < n → bit x (suc i) ≡ bit y (suc i)) → x ≡ y
 bit-ext x y n hx hy h = sym (pack-own x n hx) ∙ pack-cong (bit x) (bit y) n h ∙ pack-own y n hy
+
+-- the word with those bits that another word has too
+pub pack-and : (p : ℕ → Bool) (x n : ℕ) → bitAnd (pack p n) x ≡ pack (λ i. bit x i && p i) n
+pack-and p x n =
+    bit-ext (bitAnd (pack p n) x) (pack (λ i. bit x i && p i) n) n (lt-of-le-of-lt (and-le-l (pack p n) x) (pack-lt p n)) (pack-lt (λ i. bit x i && p i) n)
+    (λ i l. bit-and (pack p n) x (suc i) ∙ ap (λ (b : Bool). b && bit x (suc i)) (bit-pack p n i l) ∙ and-comm (p (suc i)) (bit x (suc i)) ∙ sym (bit-pack (λ i. bit x i && p i) n i l))
 
 -- the word with the other bits
 pub pack-not : (p : ℕ → Bool) (n : ℕ) → pack p n + pack (λ i. not (p i)) n ≡ 2 ^ n - 1

@@ -4,7 +4,8 @@ use mathlib.Core.Bool.{true, not, _&&_, and-eq-true-iff}
 use mathlib.Core.List.{List}
 use Prim.Native.Nat.{ℕ, _≤_, _<_, _^_}
 use native.Mathlib.Omega.{arith}
-use borrow.Author.Tests.{not-false, ltb-true, lt-ltb}
+use borrow.Author.Tests.{not-false, eqb-true, ltb-true, lt-ltb}
+use lib.ListN.{length}
 use Rattle.cube.proofs.Reply.{passed, refusal-le}
 use Rattle.report.specs.Report.{works, dimension, sized, within}
 use Rattle.routing.specs.Refusals.{routeRefusal}
@@ -42,6 +43,13 @@ module _ (n : ℕ) (status links vectors : List ℕ) (a b d : ℕ) where
   pub none-of-clear : Clear n status links vectors a b d → routeRefusal n status links vectors a b d ≡ 0
   unfolding routeRefusal
   none-of-clear c = rw (c .dim, c .sizes, lt-ltb a (2 ^ n) (c .node), lt-ltb b (2 ^ n) (c .other), c .here, c .there)
+
+  -- the link words and the vectors are as many as the nodes
+  pub clear-lengths : Clear n status links vectors a b d → (length links ≡ 2 ^ n) × (length vectors ≡ 2 ^ n)
+  unfolding sized
+  clear-lengths c =
+      let lent = and-eq-true-iff (sized n links) (sized n vectors) .0 (and-eq-true-iff (sized n status) (sized n links && sized n vectors) .0 (c .sizes) .1) in
+      (eqb-true _ _ (lent .0), eqb-true _ _ (lent .1))
 
   -- the numbers from 7 are the rules'
   pub route-refusal-le : routeRefusal n status links vectors a b d ≤ 6

@@ -2,14 +2,13 @@
 use cube::Nav;
 use cube::Node;
 ghost use mathlib.Core.Path.{_≡_};
-ghost use mathlib.Core.Bool.{true, false, _&&_};
+ghost use mathlib.Core.Bool.{true, false};
 ghost use mathlib.Core.List.{List};
+ghost use lib.ListN.{length};
 ghost use Prim.Native.Nat.{ℕ, _^_, _≤_, _<_};
-ghost use Rattle.cube.specs.Bits.{bit, weight};
-ghost use Rattle.cube.specs.Count.{one};
+ghost use Rattle.cube.specs.Bits.{weight};
 ghost use Rattle.cube.specs.Reply.{numberOf, OneAnswer};
-ghost use Rattle.report.specs.Report.{cut, cube};
-ghost use Rattle.vectors.specs.Safety.{registered};
+ghost use Rattle.report.specs.Report.{cube};
 ghost use Rattle.vectors.specs.Held.{own};
 ghost use Rattle.routing.specs.Rules.{maskOf, hopsOf, offer, spare, choose, atSource, proceed, atNode};
 ghost use Rattle.routing.specs.Refusals.{routeRefusal};
@@ -82,30 +81,12 @@ impl Step {
     }
 }
 
-// Whether dimension i is among dims and a's neighbour along it has bit k, as registered at a: 1 or 0.
-fn bears(links: &[u16], vectors: &[u16], dims: u16, a: Node, i: u32, k: u32) -> u16
-    requires { ⌜ (1 ≤ i) × (i ≤ 16) ⌝ }
-    ensures { λ r. ⌜ r ≡ one (bit dims i && registered (cut (now (links .entry))) (own (now (vectors .entry)) k) (a .0) i) ⌝ }
-{
-    if (dims >> (i - 1)) % 2 == 1 {
-        vectors::heard(links, vectors, a, i, k) as u16
-    } else {
-        0
-    }
-}
-
 // The mask of the dimensions among dims whose neighbour of a has bit k, as registered at a.
 fn mask(n: u32, links: &[u16], vectors: &[u16], dims: u16, a: Node, k: u32) -> u16
-    requires { ⌜ n ≤ 10 ⌝ }
+    requires { ⌜ (n ≤ 10) × (length (now links) ≡ 2 ^ n) × (length (now vectors) ≡ 2 ^ n) × (a .0 < 2 ^ n) × (k ≤ 16) ⌝ }
     ensures { λ r. ⌜ ((status : List ℕ) → r ≡ offer (cube n status (now (links .entry))) (own (now (vectors .entry)) k) dims (a .0)) ⌝ }
 {
-    let mut found: u16 = 0;
-    let mut i: u32 = 0;
-    while i < n {
-        found = found + (bears(links, vectors, dims, a, i + 1, k) << i);
-        i += 1;
-    }
-    found
+    vectors::heard(n, links, vectors, a, k) & dims
 }
 
 // The mask of the spare dimensions of a relative address.
@@ -143,7 +124,7 @@ fn detour(q: u16, h: u32) -> Decision
 
 // The rule at the source, H hops from the destination at nav.
 fn at_source(n: u32, links: &[u16], vectors: &[u16], s: Node, nav: Nav) -> Decision
-    requires { ⌜ (n ≤ 10) × (nav .0 < 2 ^ n) ⌝ }
+    requires { ⌜ (n ≤ 10) × (length (now links) ≡ 2 ^ n) × (length (now vectors) ≡ 2 ^ n) × (s .0 < 2 ^ n) × (nav .0 < 2 ^ n) ⌝ }
     ensures { λ r. ⌜ ((status : List ℕ) → deciding.said r ≡ atSource (cube n status (now (links .entry))) (own (now (vectors .entry))) (s .0) (nav .0) (weight (nav .0))) ⌝ }
 {
     let h = nav.weight();
@@ -214,7 +195,7 @@ fn proceed(p: u16) -> Step
 
 // The rule at a later node a, with the destination at nav.
 fn at_node(n: u32, links: &[u16], vectors: &[u16], a: Node, nav: Nav) -> Step
-    requires { ⌜ n ≤ 10 ⌝ }
+    requires { ⌜ (n ≤ 10) × (length (now links) ≡ 2 ^ n) × (length (now vectors) ≡ 2 ^ n) × (a .0 < 2 ^ n) × (nav .0 < 2 ^ n) ⌝ }
     ensures { λ r. ⌜ ((status : List ℕ) → hopping.said r ≡ atNode (cube n status (now (links .entry))) (own (now (vectors .entry))) (a .0) (nav .0) (weight (nav .0))) ⌝ }
 {
     let away = nav.weight();

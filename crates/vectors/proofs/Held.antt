@@ -1,22 +1,21 @@
 -- What is read off Fill's table is Definition 1.
 use mathlib.Core.Path.{_≡_, refl, ap, ap₂, sym, _∙_}
-use mathlib.Core.Bool.{Bool, true, false, and-false}
+use mathlib.Core.Bool.{true, false}
 use mathlib.Core.List.{List}
 use Prim.Native.Nat.{ℕ, zero, suc, min, _+_, _-_, _*_, _/_, _%_, _^_, _≤_, _<_}
 use native.Mathlib.Numerals.{add-one, one-add}
 use native.Mathlib.Omega.{arith}
-use borrow.Author.Tests.{le-leb, lt-leb}
-use lib.Dec.{leb}
+use borrow.Author.Tests.{le-leb, eq-eqb, lt-ltb}
 use lib.Pow.{shr-shr}
 use lib.ListN.{length, getD, List·getD-eq-default}
 use Rattle.cube.specs.Bits.{bit, flip}
 use Rattle.report.specs.Report.{cut}
-use Rattle.cube.specs.Count.{one}
+use Rattle.cube.specs.Count.{one, pack}
 use Rattle.cube.proofs.Count.{one-bit-next, one-unless}
 use Rattle.cube.proofs.Bits.{bit-zero, bit-high}
 use Rattle.report.specs.Health.{Cube}
 use Rattle.vectors.specs.Safety.{registered, safe, vectors}
-use Rattle.vectors.specs.Held.{held, own, heard}
+use Rattle.vectors.specs.Held.{held, own, readable, heard}
 use Rattle.vectors.proofs.Safety.{bit-vector, getD-vectors}
 
 -- over Fill's table the own bits are those of Definition 1
@@ -43,27 +42,12 @@ own-past vectors k a l h = own-at vectors k a l ∙ ap (λ (w : ℕ). bit w k) (
 pub own-wide : (vectors : List ℕ) (k a : ℕ) → getD vectors a 0 < 2 ^ 16 → 16 < k → own vectors k a ≡ false
 own-wide vectors k a h l = own-at vectors k a (omega arith) ∙ bit-high (getD vectors a 0) 16 k h l
 
-pub heard-zero : (links vectors : List ℕ) (k a i : ℕ) → i < 1 → heard links vectors k a i ≡ false
-unfolding heard
-heard-zero links vectors k a i h = rw (lt-leb 1 i h)
-
-pub heard-wide : (links vectors : List ℕ) (k a i : ℕ) → 16 < i → heard links vectors k a i ≡ false
-unfolding heard
-heard-wide links vectors k a i h = rw (lt-leb i 16 h) (and-false (leb 1 i))
-
-pub heard-at : (links vectors : List ℕ) (k a i : ℕ) → 1 ≤ i → i ≤ 16 → heard links vectors k a i ≡ registered (cut links) (own vectors k) a i
-unfolding heard
-heard-at links vectors k a i l h = rw (le-leb 1 i l, le-leb i 16 h)
-
--- nothing is registered across a link that counts as faulty
-pub registered-cut : (cut : ℕ → ℕ → Bool) (bits : ℕ → Bool) (a i : ℕ) → cut a i ≡ true → registered cut bits a i ≡ false
-unfolding registered
-registered-cut cut bits a i h = rw h
-
--- and across any other the neighbour's own bit
-pub registered-sound : (cut : ℕ → ℕ → Bool) (bits : ℕ → Bool) (a i : ℕ) → cut a i ≡ false → registered cut bits a i ≡ bits (flip a i)
-unfolding registered
-registered-sound cut bits a i h = rw h
+-- where the slices are of the cube's size the mask is that of the registered bits
+pub heard-at : (n : ℕ) (links vectors : List ℕ) (a k : ℕ) → n ≤ 10 → length links ≡ 2 ^ n → length vectors ≡ 2 ^ n → a < 2 ^ n → k ≤ 16
+    → heard n links vectors a k ≡ pack (registered (cut links) (own vectors k) a) n
+unfolding heard readable
+heard-at n links vectors a k hn hl hv ha hk =
+    rw (le-leb n 10 hn, eq-eqb (length links) (2 ^ n) hl, eq-eqb (length vectors) (2 ^ n) hv, lt-ltb a (2 ^ n) ha, le-leb k 16 hk)
 
 -- a bit of a vector as the machine reads it, with bit 0 put below the others
 pub held-digit : (w k : ℕ) → (w * 2 + 1) / 2 ^ k % 2 ≡ one (held w k)

@@ -5,7 +5,7 @@ ghost use Prim.Native.Nat.{suc, min, _+_, _^_, _≤_, _<_};
 ghost use mathlib.Core.Bool.{_&&_};
 ghost use lib.ListN.{length, replicate};
 ghost use Rattle.cube.specs.Bits.{bit, flip};
-ghost use Rattle.cube.specs.Count.{one, count};
+ghost use Rattle.cube.specs.Count.{one, pack, count};
 ghost use Rattle.cube.specs.Reply.{numberOf, OneAnswer};
 ghost use Rattle.report.specs.Report.{works, cut, cube};
 ghost use Rattle.vectors.specs.Safety.{registered, supported};
@@ -49,23 +49,6 @@ pub fn own(vectors: &[u16], a: Node, k: u32) -> u32
     (word >> (k - 1)) as u32 % 2
 }
 
-// Bit k of a's neighbour along dimension i, as registered at a, as 1 or 0.
-pub fn heard(links: &[u16], vectors: &[u16], a: Node, i: u32, k: u32) -> u32
-    ensures { λ r. ⌜ r ≡ one (heard (now (links .entry)) (now (vectors .entry)) k (a .0) i) ⌝ }
-{
-    if i < 1 {
-        return 0;
-    }
-    if 16 < i {
-        return 0;
-    }
-    if report::faulty(links, a, i) {
-        return 0;
-    }
-    let bit: u16 = 1 << (i - 1);
-    own(vectors, Node(a.0 ^ bit), k)
-}
-
 // The neighbour of a along dimension i + 1.
 fn across(a: usize, i: u32) -> usize
     requires { ⌜ i < 16 ⌝ }
@@ -105,7 +88,45 @@ fn registered(links: &[u16], vectors: &[u16], a: usize, i: u32, k: u32) -> u32
 {
     let b = across(a, i);
     let end = lower(a, b);
-    (1 - marked(links[end], i)) * bit_of(vectors[b], k)
+    let word = links[end];
+    (1 - marked(word, i)) * bit_of(vectors[b], k)
+}
+
+// The mask of the dimensions 1 to n along which bit k is registered at a.
+fn registered_mask(n: u32, links: &[u16], vectors: &[u16], a: usize, k: u32) -> u16
+    requires { ⌜ (n ≤ 10) × (k ≤ 16) × (a < 2 ^ n) × (length (now links) ≡ 2 ^ n) × (length (now vectors) ≡ 2 ^ n) ⌝ }
+    ensures { λ r. ⌜ r ≡ pack (registered (cut (now (links .entry))) (own (now (vectors .entry)) k) a) n ⌝ }
+{
+    let mut mask: u16 = 0;
+    let mut i: u32 = 0;
+    while i < n {
+        let bit = registered(links, vectors, a, i, k) as u16;
+        mask = mask + (bit << i);
+        i += 1;
+    }
+    mask
+}
+
+// The mask of the dimensions along which bit k is registered at a; 0 where that can't be read.
+pub fn heard(n: u32, links: &[u16], vectors: &[u16], a: Node, k: u32) -> u16
+    ensures { λ r. ⌜ r ≡ heard n (now (links .entry)) (now (vectors .entry)) (a .0) k ⌝ }
+{
+    if 10 < n {
+        return 0;
+    }
+    if !report::sized(n, links.len()) {
+        return 0;
+    }
+    if !report::sized(n, vectors.len()) {
+        return 0;
+    }
+    if !report::within(n, a.0) {
+        return 0;
+    }
+    if 16 < k {
+        return 0;
+    }
+    registered_mask(n, links, vectors, a.0 as usize, k)
 }
 
 // How many of a's neighbours along dimensions 1 to n are registered with bit k.

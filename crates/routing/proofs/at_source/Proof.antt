@@ -24,7 +24,10 @@ sub-mask : tie.Need-sub-mask
 sub-mask c = search needs
 
 mask-requires : tie.Need-mask-requires
-mask-requires c κs = search needs
+mask-requires c κs =
+    let s = c .before .before .before .before in
+    let p = s .pre in
+    (p .0, p .1, p .2, p .3, omega (arith, c .before .weight .ensures, weight-le (s .args .n) (s .args .nav .0) (p .4)))
 
 own-requires : tie.Need-own-requires
 own-requires c κs = search needs
@@ -63,16 +66,19 @@ returns-3 c = λ status.
     ∙ ap (atSource C bits (a .s .0) (a .nav .0)) (c .before .before .before .before .before .weight .ensures)
 
 spare-requires : tie.Need-spare-requires
-spare-requires c κs = search needs
+spare-requires c κs = (c .before .before .before .before .before .before .before .before .pre .0, c .before .before .before .before .before .before .before .before .pre .4)
 
 add-mask : tie.Need-add-mask
-add-mask c = omega (arith, c .before .before .before .before .before .before .weight .ensures, weight-le (c .before .before .before .before .before .before .before .before .before .args .n) (c .before .before .before .before .before .before .before .before .before .args .nav .0) (c .before .before .before .before .before .before .before .before .before .pre .1))
+add-mask c = omega (arith, c .before .before .before .before .before .before .weight .ensures, weight-le (c .before .before .before .before .before .before .before .before .before .args .n) (c .before .before .before .before .before .before .before .before .before .args .nav .0) (c .before .before .before .before .before .before .before .before .before .pre .4))
 
 mask-requires-2 : tie.Need-mask-requires-2
-mask-requires-2 c κs = search needs
+mask-requires-2 c κs =
+    let s = c .before .before .before .before .before .before .before .before .before in
+    let p = s .pre in
+    (p .0, p .1, p .2, p .3, omega (arith, c .before .before .before .before .before .before .weight .ensures, weight-le (s .args .n) (s .args .nav .0) (p .4)))
 
 detour-requires : tie.Need-detour-requires
-detour-requires c κs = omega (arith, c .before .before .before .before .before .before .before .weight .ensures, weight-le (c .before .before .before .before .before .before .before .before .before .before .args .n) (c .before .before .before .before .before .before .before .before .before .before .args .nav .0) (c .before .before .before .before .before .before .before .before .before .before .pre .1))
+detour-requires c κs = omega (arith, c .before .before .before .before .before .before .before .weight .ensures, weight-le (c .before .before .before .before .before .before .before .before .before .before .args .n) (c .before .before .before .before .before .before .before .before .before .before .args .nav .0) (c .before .before .before .before .before .before .before .before .before .before .pre .4))
 
 returns-4 : tie.Need-returns-4
 unfolding cube

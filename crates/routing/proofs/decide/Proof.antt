@@ -13,7 +13,7 @@ use Rattle.vectors.specs.Held.{own}
 use Rattle.routing.specs.Rules.{atSource}
 use Rattle.routing.specs.Refusals.{routeRefusal}
 use Rattle.routing.specs.Decide.{decide}
-use Rattle.routing.proofs.Refusals.{clear-of-none}
+use Rattle.routing.proofs.Refusals.{clear-of-none, clear-lengths}
 use Rattle.routing.proofs.decide.Statement.{statement}
 use Rattle.routing.proofs.decide.Tie as tie
 
@@ -35,7 +35,8 @@ at-source-requires : tie.Need-at-source-requires
 at-source-requires c κs =
     let a = c .before .before .before .before .before .before .args in
     let k = clear-of-none (a .n) (now (a .status)) (now (a .links)) (now (a .vectors)) (a .s .0) (a .d .0) (a .d .0) (sym (c .before .before .route-refusal .ensures) ∙ c .before .if1 .left) in
-    (dimension-range (a .n) (k .dim) .1, rw (c .to .ensures) (xor-lt (a .n) (a .s .0) (a .d .0) (k .node) (k .other)))
+    let l = clear-lengths (a .n) (now (a .status)) (now (a .links)) (now (a .vectors)) (a .s .0) (a .d .0) (a .d .0) k in
+    (dimension-range (a .n) (k .dim) .1, l .0, l .1, k .node, rw (c .to .ensures) (xor-lt (a .n) (a .s .0) (a .d .0) (k .node) (k .other)))
 
 returns-2 : tie.Need-returns-2
 unfolding decide

@@ -8,7 +8,7 @@ use Rattle.cube.proofs.Reply.{unless-some, unless-none}
 use Rattle.report.proofs.Report.{dimension-range}
 use Rattle.routing.specs.Refusals.{routeRefusal}
 use Rattle.routing.specs.Hop.{hop}
-use Rattle.routing.proofs.Refusals.{clear-of-none}
+use Rattle.routing.proofs.Refusals.{clear-of-none, clear-lengths}
 use Rattle.routing.proofs.hop.Statement.{statement}
 use Rattle.routing.proofs.hop.Tie as tie
 
@@ -29,8 +29,10 @@ returns c =
 at-node-requires : tie.Need-at-node-requires
 at-node-requires c κs =
     let a = c .before .before .before .before .before .before .args in
-    let z = sym (c .before .route-refusal .ensures) ∙ c .if1 .left in
-    dimension-range (a .n) (clear-of-none _ _ _ _ _ _ _ z .dim) .1
+    let z = sym (c .before .route-refusal .ensures ∙ ap (routeRefusal (a .n) (now (a .status)) (now (a .links)) (now (a .vectors)) (a .a .0) (a .nav .0)) (c .before .before .at .ensures)) ∙ c .if1 .left in
+    let k = clear-of-none (a .n) (now (a .status)) (now (a .links)) (now (a .vectors)) (a .a .0) (a .nav .0) (bitXor (a .a .0) (a .nav .0)) z in
+    let l = clear-lengths (a .n) (now (a .status)) (now (a .links)) (now (a .vectors)) (a .a .0) (a .nav .0) (bitXor (a .a .0) (a .nav .0)) k in
+    (dimension-range (a .n) (k .dim) .1, l .0, l .1, k .node, k .other)
 
 returns-2 : tie.Need-returns-2
 unfolding hop

@@ -1,54 +1,100 @@
--- `vectors::heard` meets its contract.
-use mathlib.Core.Path.{ap, sym, _∙_}
-use Prim.Native.Nat.{ℕ}
-use native.Mathlib.Omega.{arith}
+-- `vectors::heard` meets its contract: its tests are those of `readable`.
+use mathlib.Core.Path.{sym, _∙_}
+use borrow.Author.Tests.{le-leb, lt-leb, not-true, not-false, ltb-true, eqb-true}
 use borrow.Author.Needs.{needs}
-use denote.Ref.{now}
-use Rattle.cube.specs.Count.{one}
-use Rattle.cube.proofs.Bits.{flip-shift}
-use Rattle.report.specs.Report.{cut}
-use Rattle.vectors.specs.Held.{own}
-use Rattle.vectors.proofs.Held.{heard-zero, heard-wide, heard-at, registered-cut, registered-sound}
+use Rattle.report.specs.Report.{within}
+use Rattle.vectors.specs.Held.{readable, heard}
 use Rattle.vectors.proofs.heard.Statement.{statement}
 use Rattle.vectors.proofs.heard.Tie as tie
 
 returns : tie.Need-returns
-returns c = sym (ap one (heard-zero (now (c .before .before .before .args .links)) (now (c .before .before .before .args .vectors)) (c .before .before .before .args .k) (c .before .before .before .args .a .0) (c .before .before .before .args .i) (c .if1 .taken)))
+unfolding heard readable
+returns c = rw (lt-leb _ 10 (c .if1 .taken))
+
+sized-requires : tie.Need-sized-requires
+sized-requires c κs = search needs
 
 returns-2 : tie.Need-returns-2
-returns-2 c = sym (ap one (heard-wide (now (c .before .before .before .before .args .links)) (now (c .before .before .before .before .args .vectors)) (c .before .before .before .before .args .k) (c .before .before .before .before .args .a .0) (c .before .before .before .before .args .i) (c .if2 .taken)))
+unfolding heard readable
+returns-2 c =
+    rw (
+      le-leb _ 10 (c .before .before .if1 .left),
+      sym (c .before .sized .ensures) ∙ not-true _ (c .if2 .taken),
+    )
 
-faulty-requires : tie.Need-faulty-requires
-faulty-requires c κs = search needs
+sized-requires-2 : tie.Need-sized-requires-2
+sized-requires-2 c κs = search needs
 
 returns-3 : tie.Need-returns-3
+unfolding heard readable
 returns-3 c =
-    let a = c .before .before .before .before .before .before .args in
-    sym
-    (ap one
-    (heard-at (now (a .links)) (now (a .vectors)) (a .k) (a .a .0) (a .i) (omega arith) (omega arith)
-    ∙ registered-cut (cut (now (a .links))) (own (now (a .vectors)) (a .k)) (a .a .0) (a .i) (sym (c .before .faulty .ensures) ∙ c .if3 .taken)))
+    rw (
+      le-leb _ 10 (c .before .before .before .before .if1 .left),
+      sym (c .before .before .before .sized .ensures) ∙ not-false _ (c .before .before .if2 .left),
+      sym (c .before .sized2 .ensures) ∙ not-true _ (c .if3 .taken),
+    )
 
-cast-bit : tie.Need-cast-bit
-cast-bit c = search needs
-
-shl-bit : tie.Need-shl-bit
-shl-bit c = search needs
-
-own-requires : tie.Need-own-requires
-own-requires c κs = search needs
+within-requires : tie.Need-within-requires
+within-requires c κs = search needs
 
 returns-4 : tie.Need-returns-4
+unfolding heard readable
 returns-4 c =
-    let a = c .before .before .before .before .before .before .before .before .args in
-    c .own .ensures
-    ∙ ap (λ (x : ℕ). one (own (now (a .vectors)) (a .k) x)) (flip-shift (a .a .0) (a .i) (omega arith) (omega arith))
-    ∙ sym
-    (ap one
-    (heard-at (now (a .links)) (now (a .vectors)) (a .k) (a .a .0) (a .i) (omega arith) (omega arith)
-    ∙ registered-sound (cut (now (a .links))) (own (now (a .vectors)) (a .k)) (a .a .0) (a .i) (sym (c .before .before .before .faulty .ensures) ∙ c .before .before .if3 .left)))
+    rw (
+      le-leb _ 10 (c .before .before .before .before .before .before .if1 .left),
+      sym (c .before .before .before .before .before .sized .ensures) ∙ not-false _ (c .before .before .before .before .if2 .left),
+      sym (c .before .before .before .sized2 .ensures) ∙ not-false _ (c .before .before .if3 .left),
+      sym (c .before .within .ensures) ∙ not-true _ (c .if4 .taken),
+    )
+
+returns-5 : tie.Need-returns-5
+unfolding heard readable
+returns-5 c =
+    rw (
+      le-leb _ 10 (c .before .before .before .before .before .before .before .if1 .left),
+      sym (c .before .before .before .before .before .before .sized .ensures) ∙ not-false _ (c .before .before .before .before .before .if2 .left),
+      sym (c .before .before .before .before .sized2 .ensures) ∙ not-false _ (c .before .before .before .if3 .left),
+      sym (c .before .before .within .ensures) ∙ not-false _ (c .before .if4 .left),
+      lt-leb _ 16 (c .if5 .taken),
+    )
+
+cast-registered-mask : tie.Need-cast-registered-mask
+cast-registered-mask c = search needs
+
+registered-mask-requires : tie.Need-registered-mask-requires
+unfolding within
+registered-mask-requires c κs = (
+  c .before .before .before .before .before .before .before .before .if1 .left,
+  c .before .if5 .left,
+  ltb-true _ _ (sym (c .before .before .before .within .ensures) ∙ not-false _ (c .before .before .if4 .left)),
+  eqb-true _ _ (sym (c .before .before .before .before .before .before .before .sized .ensures) ∙ not-false _ (c .before .before .before .before .before .before .if2 .left)),
+  eqb-true _ _ (sym (c .before .before .before .before .before .sized2 .ensures) ∙ not-false _ (c .before .before .before .before .if3 .left)),
+)
+
+returns-6 : tie.Need-returns-6
+unfolding heard readable
+returns-6 c =
+    rw (
+      le-leb _ 10 (c .before .before .before .before .before .before .before .before .before .if1 .left),
+      sym (c .before .before .before .before .before .before .before .before .sized .ensures) ∙ not-false _ (c .before .before .before .before .before .before .before .if2 .left),
+      sym (c .before .before .before .before .before .before .sized2 .ensures) ∙ not-false _ (c .before .before .before .before .before .if3 .left),
+      sym (c .before .before .before .before .within .ensures) ∙ not-false _ (c .before .before .before .if4 .left),
+      le-leb _ 16 (c .before .before .if5 .left),
+    )
+    (c .registered-mask .ensures)
 
 pub heard-spec : {M : Type 1} → statement M
 heard-spec =
     tie.close
-    (tie.spec returns returns-2 faulty-requires returns-3 cast-bit shl-bit own-requires returns-4)
+    (tie.spec
+    returns
+    sized-requires
+    returns-2
+    sized-requires-2
+    returns-3
+    within-requires
+    returns-4
+    returns-5
+    cast-registered-mask
+    registered-mask-requires
+    returns-6)

@@ -32,11 +32,11 @@ across-requires c κs = search needs
 lower-requires : tie.Need-lower-requires
 lower-requires c κs = search needs
 
-mul-marked : tie.Need-mul-marked
-mul-marked c = search needs
+mul-word : tie.Need-mul-word
+mul-word c = search needs
 
-shared-slice-read-marked : tie.Need-shared-slice-read-marked
-shared-slice-read-marked c = omega (arith, c .before .lower .ensures, c .before .before .before .before .before .pre .2)
+shared-slice-read-word : tie.Need-shared-slice-read-word
+shared-slice-read-word c = omega (arith, c .before .lower .ensures, c .before .before .before .before .before .pre .2)
 
 marked-requires : tie.Need-marked-requires
 marked-requires c κs = search needs
@@ -71,8 +71,8 @@ registered-spec =
     (tie.spec
     across-requires
     lower-requires
-    mul-marked
-    shared-slice-read-marked
+    mul-word
+    shared-slice-read-word
     marked-requires
     sub-result
     mul-bit-of

@@ -1,0 +1,79 @@
+-- `vectors::registered_mask` meets its contract. The loop keeps that the mask is that of dimensions 1 to i.
+use mathlib.Core.Path.{_≡_, ap, sym, _∙_}
+use Prim.Native.Nat.{ℕ, suc, _-_, _≤_}
+use native.Mathlib.Numerals.{add-one}
+use native.Mathlib.Omega.{arith}
+use borrow.Author.Needs.{needs}
+use denote.Ref.{now}
+use Rattle.cube.specs.Count.{one, pack}
+use Rattle.cube.proofs.Bits.{flip-lt}
+use Rattle.cube.proofs.Count.{pack-more, pack-fits}
+use Rattle.report.specs.Report.{cut}
+use Rattle.vectors.specs.Safety.{registered}
+use Rattle.vectors.specs.Held.{own}
+use Rattle.vectors.proofs.registered_mask.Statement.{statement}
+use Rattle.vectors.proofs.registered_mask.Tie as tie
+
+abbrev Inv-loop : tie.InvT-loop
+Inv-loop n links vectors a k mask₀ i₀ mask i = (i ≤ n) × (mask ≡ pack (registered (cut links) (own vectors k) a) i)
+
+abbrev μ-loop : tie.MeasureT-loop
+μ-loop n links vectors a k mask₀ i₀ mask i = n - i
+
+loop-holds : tie.Need-loop-holds Inv-loop μ-loop
+unfolding pack
+loop-holds c = search needs
+
+registered-requires : tie.Need-registered-requires Inv-loop μ-loop
+registered-requires c κs =
+    let s = c .before .before .before .before in
+    let p = s .pre in
+    (omega arith, p .1, rw (p .3) (p .2), rw (p .4) (flip-lt (s .args .n) (s .args .a) (suc (c .before .loop .i)) (p .2) (c .loop-test .taken)))
+
+cast-bit : tie.Need-cast-bit Inv-loop μ-loop
+cast-bit c = omega (arith, c .registered .ensures .1)
+
+cast-mask : tie.Need-cast-mask Inv-loop μ-loop
+cast-mask c = search needs
+
+shl-mask : tie.Need-shl-mask Inv-loop μ-loop
+shl-mask c = search needs
+
+add-mask : tie.Need-add-mask Inv-loop μ-loop
+add-mask c =
+    let a = c .before .before .before .before .before .args in
+    record { fits = rw (c .before .before .loop .inv .1) (pack-fits (registered (cut (now (a .links))) (own (now (a .vectors)) (a .k)) (a .a)) (c .before .before .loop .i) 16 (c .registered .result) (omega arith) (c .registered .ensures .0 ∙ ap (λ (x : ℕ). one (registered (cut (now (a .links))) (own (now (a .vectors)) (a .k)) (a .a) x)) (sym (add-one (c .before .before .loop .i))))) }
+
+add-i : tie.Need-add-i Inv-loop μ-loop
+add-i c = search needs
+
+loop-less : tie.Need-loop-less Inv-loop μ-loop
+loop-less c = search needs
+
+loop-again : tie.Need-loop-again Inv-loop μ-loop
+loop-again c =
+    let a = c .before .before .before .before .before .args in
+    (omega arith, rw (c .before .before .loop .inv .1) (pack-more (registered (cut (now (a .links))) (own (now (a .vectors)) (a .k)) (a .a)) (c .before .before .loop .i) 16 (c .registered .result) (omega arith) (c .registered .ensures .0 ∙ ap (λ (x : ℕ). one (registered (cut (now (a .links))) (own (now (a .vectors)) (a .k)) (a .a) x)) (sym (add-one (c .before .before .loop .i))))))
+
+returns : tie.Need-returns Inv-loop μ-loop
+returns c =
+    let a = c .before .before .before .before .args in
+    let e : c .before .loop .i ≡ a .n = omega arith in
+    c .before .loop .inv .1 ∙ ap (pack (registered (cut (now (a .links))) (own (now (a .vectors)) (a .k)) (a .a))) e
+
+pub registered-mask-spec : {M : Type 1} → statement M
+registered-mask-spec =
+    tie.close
+    (tie.spec
+    Inv-loop
+    μ-loop
+    loop-holds
+    registered-requires
+    cast-bit
+    cast-mask
+    shl-mask
+    add-mask
+    add-i
+    loop-less
+    loop-again
+    returns)
