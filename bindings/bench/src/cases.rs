@@ -52,7 +52,7 @@ pub struct Case {
 const PICKS: [u8; 11] = [0, 1, 2, 3, 4, 5, 6, 7, 8, 9, 10];
 
 /// Decide and Hop are timed over this many pairs, Journey over the first few of them.
-const PAIRS: usize = 256;
+const PAIRS: usize = 1 << 16;
 const JOURNEYS: usize = 8;
 
 impl Case {
