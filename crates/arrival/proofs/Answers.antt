@@ -2,7 +2,7 @@
 use mathlib.Core.Path.{_≡_, refl, ap, sym, _∙_}
 use mathlib.Core.Bool.{Bool, true, false}
 use mathlib.Core.Logic.{_⊎_, inl, inr, _↔_}
-use Prim.Native.Nat.{ℕ, zero, suc, _+_, _≤_, _<_}
+use Prim.Native.Nat.{ℕ, zero, suc, _+_, _^_, _≤_, _<_}
 use native.Mathlib.Omega.{arith}
 use lib.Count.{ones}
 use Rattle.cube.specs.Bits.{bit, weight}
@@ -12,8 +12,8 @@ use Rattle.report.specs.Health.{Cube}
 use Rattle.vectors.specs.Safety.{safe, vectors}
 use Rattle.vectors.specs.Held.{own}
 use Rattle.vectors.proofs.Held.{own-safe}
-use Rattle.routing.specs.Rules.{offer, spare, Choice, hopsOf, choose, atSource, Next, arrived, onward, proceed, atNode}
-use Rattle.routing.proofs.Rules.{offer-find, offer-pos}
+use Rattle.routing.specs.Rules.{offer, spare, Choice, home, assured, lent, detour, maskOf, hopsOf, choose, atSource, Next, arrived, onward, proceed, atNode}
+use Rattle.routing.proofs.Rules.{offer-lt, offer-find, offer-pos}
 use Rattle.arrival.specs.Walk.{told}
 use Rattle.arrival.specs.Promise.{beyond}
 use Rattle.arrival.proofs.Hops.{At, UnderWay, Hopped, preferred-hop, spare-hop}
@@ -29,6 +29,7 @@ pub record Leads (C : Cube) (d a nav left : ℕ) (reply : Reply Next) : Type 0 w
   pub far : nav ≡ 0 → ⊥
   pub mask : ℕ
   pub says : reply ≡ accepted (onward mask)
+  pub small : mask < 2 ^ (C .dim)
   pub some : (i : ℕ) × (bit mask i ≡ true)
   pub each : (i : ℕ) → bit mask i ≡ true → Hopped C d a nav left i
 
@@ -41,6 +42,11 @@ module _ {C : Cube} {d a nav left : ℕ} {reply : Reply Next} where
   pub hopped : {mask i : ℕ} → Guides C d a nav left reply → reply ≡ accepted (onward mask) → bit mask i ≡ true → Hopped C d a nav left i
   hopped (inl g) e b = absurd (let z : _≡_ {A = ℕ} 0 1 = cc (g .says) in omega arith)
   hopped {mask} {i} (inr g) e b = g .each i (let same : g .mask ≡ mask = cc (g .says) in rw same b)
+
+  -- it offers no dimension above n
+  pub small-of : {mask : ℕ} → Guides C d a nav left reply → reply ≡ accepted (onward mask) → mask < 2 ^ (C .dim)
+  small-of (inl g) e = absurd (let z : _≡_ {A = ℕ} 0 1 = cc (g .says) in omega arith)
+  small-of {mask} (inr g) e = let same : g .mask ≡ mask = cc (g .says) in rw same at (g .small)
 
   -- nothing is refused
   pub no-refusal-of : {m : ℕ} → Guides C d a nav left reply → reply ≡ refused m → ⊥
@@ -56,6 +62,14 @@ module _ {C : Cube} {d a nav left : ℕ} {reply : Reply Next} where
   pub left-le : Guides C d a nav left reply → left ≤ C .dim + 1
   left-le (inl g) = omega (arith, g .none)
   left-le (inr g) = let h = g .each (g .some .0) (g .some .1) in omega (arith, weight-le (C .dim) _ (h .way .at .near), h .fewer)
+
+-- what a source is told is the mask accepted
+pub told-mask : (c : Choice) (mask : ℕ) → accepted (told c) ≡ accepted (onward mask) → maskOf c ≡ mask
+unfolding told
+told-mask home mask e = absurd (let z : _≡_ {A = ℕ} 0 1 = cc in omega arith)
+told-mask (assured p h) mask e = cc
+told-mask (lent p h) mask e = cc
+told-mask (detour q h) mask e = cc
 
 -- what holds of Decide's rule: it refuses by 7 alone, and what it accepts takes the hops promised
 abbrev pub Fair : Cube → ℕ → ℕ → ℕ → Reply Choice → Type 0
@@ -76,6 +90,7 @@ module _ {C : Cube} {d a nav : ℕ} (m : At C d a nav) where
         far = λ z. omega (arith, ap weight z);
         mask = offer C bits dims a;
         says = ap (λ (x : ℕ). accepted (onward x)) (sym e);
+        small = offer-lt C bits dims a;
         some = offer-find C bits dims a (omega arith);
         each = each;
       }

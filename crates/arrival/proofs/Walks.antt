@@ -3,7 +3,7 @@ use mathlib.Core.Path.{_≡_, refl, ap, _∙_, subst₂}
 use mathlib.Core.Bool.{true, not, and-eq-true-iff}
 use mathlib.Core.Logic.{inl, inr, ⊎-elim}
 use mathlib.Core.List.{List, [], _∷_, _++_, append-assoc}
-use Prim.Native.Nat.{ℕ, zero, suc, _+_, _-_, _≤_}
+use Prim.Native.Nat.{ℕ, zero, suc, _+_, _-_, _^_, _≤_, _<_}
 use native.Mathlib.Omega.{arith}
 use borrow.Author.Tests.{ne-eqb}
 use lib.Bits.{bitXor, xor-lt}
@@ -26,7 +26,13 @@ use Rattle.routing.proofs.Refusals.{Clear, clear-of-none, none-of-clear, route-
 use Rattle.arrival.specs.Walk.{Leg, answer, Walk, source, go, boards, fresh, distinct, allWork, allSound}
 use Rattle.arrival.specs.Promise.{Kept}
 use Rattle.arrival.proofs.Hops.{At, UnderWay, Hopped, address-of, home-of-zero, zero-of-home, works-of}
-use Rattle.arrival.proofs.Answers.{Guides, hopped, no-refusal-of, left-zero, left-le, Fair, node-guides, source-fair}
+use Rattle.arrival.proofs.Answers.{Guides, hopped, small-of, no-refusal-of, left-zero, left-le, Fair, node-guides, source-fair}
+
+-- one board left to each leg
+pub length-boards : (legs : List Leg) → length (boards legs) ≡ length legs
+unfolding boards
+length-boards [] = refl
+length-boards (l ∷ legs) = ap suc (length-boards legs)
 
 module _ (n : ℕ) (status links : List ℕ) where
   -- the cube that the report describes
@@ -178,6 +184,12 @@ module _ (n : ℕ) (status links : List ℕ) where
           there : {left : ℕ} {reply : Reply Next} → Guides C d a nav left reply → a ≡ d → reply ≡ accepted arrived
           there (inl g) e = g .says
           there (inr g) e = absurd (g .far (zero-of-home (walked w .at) e))
+
+      -- on a walk no dimension above n is offered
+      pub offered-small : {legs : List Leg} {a nav mask : ℕ} → Walk n status links s d c legs a nav
+          → answer n status links c legs a nav ≡ accepted (onward mask) → mask < 2 ^ n
+      unfolding cube
+      offered-small w e = small-of (walked w .guides) e
 
       -- on a walk Hop refuses nothing
       pub no-refusal : {l : Leg} {legs : List Leg} {a nav m : ℕ} → Walk n status links s d c (l ∷ legs) a nav

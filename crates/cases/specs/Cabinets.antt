@@ -1,6 +1,6 @@
 -- Document 01's cabinets to check by.
 use Prim.Native.Nat.{ℕ}
-use mathlib.Core.List.{List, [], _∷_}
+use mathlib.Core.List.{List}
 use lib.ListN.{replicate, set}
 
 -- a list that is 0 but for what is set in it

@@ -1,12 +1,16 @@
 -- The lettered cases of document 01, as one table: what the definitions give, and what the document says.
 use Prim.Native.Nat.{ℕ, suc}
 use mathlib.Core.Path.{_≡_}
-use mathlib.Core.Bool.{Bool, true}
+use mathlib.Core.Bool.{Bool, true, _&&_}
 use mathlib.Core.List.{List, [], _∷_, map}
+use lib.Bits.{bitXor}
+use lib.Count.{ones}
+use lib.Dec.{eqb}
 use lib.ListN.{replicate}
+use Rattle.cube.specs.Bits.{weight}
 use Rattle.cube.specs.Reply.{Reply, refused, accepted}
 use Rattle.report.specs.Class.{classOf}
-use Rattle.report.specs.Report.{cube}
+use Rattle.report.specs.Report.{works, cube}
 use Rattle.report.specs.declared.Class.{Class}
 use Rattle.report.specs.declared.Class.the-variants.{Silent, Working, Late, Down, Empty}
 use Rattle.vectors.specs.Safety.{vectors}
@@ -14,15 +18,23 @@ use Rattle.routing.specs.Rules.{Choice, home, assured, lent, detour}
 use Rattle.journey.specs.Journey.{Route, journey}
 use Rattle.cases.specs.Cabinets.{zeros, statusF, statusL, linksL}
 
--- what a case speaks of: a table of vectors, a journey, or classes
+-- what a case speaks of: a table of vectors, a journey, a path by hand, or classes
 pub data Shown : Type 0 where
   words : List ℕ → Shown
   goes : Reply Route → Shown
+  passable : Bool → Shown
   classed : List Class → Shown
 
 pub record Case : Type 0 where
   pub gives : Shown
   pub says : Shown
+
+-- a path by hand: every board is working, and each is a neighbour of the one before
+unfoldable pub passes : List ℕ → List ℕ → Bool
+unfolding works ones
+passes status [] = true
+passes status (a ∷ []) = works status a
+passes status (a ∷ (b ∷ bs)) = works status a && (eqb (weight (bitXor a b)) 1 && passes status (b ∷ bs))
 
 -- a journey with all picks 0, in a cube of dimension n with 2^n boards
 unfoldable pub trip : ℕ → ℕ → List ℕ → List ℕ → ℕ → ℕ → Shown
@@ -44,7 +56,7 @@ abbrev pub refuses : ℕ → Shown
 refuses m = goes (refused m)
 
 unfoldable pub lettered : List Case
-unfolding vectors cube trip classOf
+unfolding vectors cube trip passes classOf
 lettered =
     -- A
     record {
@@ -61,6 +73,7 @@ lettered =
     ∷ record { gives = inF 0 7; says = by (detour 8 5) (8 ∷ 10 ∷ 14 ∷ 15 ∷ 7 ∷ []) }
     -- G
     ∷ record { gives = inF 1 11; says = refuses 7 }
+    ∷ record { gives = passable (passes statusF (1 ∷ 0 ∷ 2 ∷ 10 ∷ 11 ∷ [])); says = passable true }
     -- H
     ∷ record { gives = inF 0 0; says = by home [] }
     ∷ record { gives = inF 3 0; says = refuses 5 }

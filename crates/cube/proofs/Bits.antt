@@ -1,16 +1,15 @@
 -- The laws of single bits: of an exclusive or, of a remainder, of a power, of a neighbour.
-use mathlib.Core.Path.{_≡_, refl, ap, ap₂, sym, _∙_, subst}
-use mathlib.Core.Bool.{Bool, true, false, not, xor}
+use mathlib.Core.Path.{_≡_, refl, ap, sym, _∙_}
+use mathlib.Core.Bool.{Bool, true, false, not, xor, false≢true}
 use Prim.Native.Nat.{ℕ, zero, suc, _+_, _*_, _-_, _/_, _%_, _^_, _≤_, _<_}
 use native.Mathlib.Nat.{div-eq-of-lt, mod-eq-of-lt, lt-of-lt-of-le, div-self, one-mul, mul-mod-left}
-use native.Mathlib.Numerals.{add-one}
 use native.Mathlib.Omega.{arith}
 use mathlib.Core.Logic.{⊎-elim}
 use borrow.Author.Tests.{le-leb}
 use lib.Dec.{eqb}
 use Rattle.cube.proofs.Order.{lt-or-ge}
 use lib.Bits.{bitXor, differ, xor-step, xor-shr, xor-lt, xor-zero-r}
-use lib.Pow.{pow-pos, pow-mono, pow-lt, pow-add, shl-shr, field, mod-mod-pow}
+use lib.Pow.{pow-pos, pow-mono, pow-lt, pow-add, field, mod-mod-pow}
 use Rattle.cube.specs.Bits.{bit, place, flip, crossed}
 
 -- a digit of an exclusive or is 1 where the two digits differ
@@ -59,6 +58,11 @@ pub bit-zero : (i : ℕ) → bit 0 i ≡ false
 unfolding bit
 bit-zero zero = refl
 bit-zero (suc i) = ap (λ (d : ℕ). eqb (d % 2) 1) (div-eq-of-lt (pow-pos i))
+
+-- a number with a bit set is not 0
+pub bit-pos : (x i : ℕ) → bit x i ≡ true → 0 < x
+bit-pos zero i e = absurd (false≢true (sym (bit-zero i) ∙ e))
+bit-pos (suc x) i e = omega arith
 
 pub bit-place : (i : ℕ) → bit (place (suc i)) (suc i) ≡ true
 unfolding bit place
@@ -119,6 +123,10 @@ flip-lt n a (suc i) ha hi = xor-lt n a (2 ^ i) ha (pow-lt {i = i} {j = n} hi)
 pub flip-shift : (a i : ℕ) → 1 ≤ i → i ≤ 16 → bitXor a (1 * 2 ^ (i - 1) % 65536) ≡ flip a i
 unfolding flip
 flip-shift a i l h = ap (bitXor a) (place-shift i l h)
+
+pub flip-next : (a i w : ℕ) → i < w → bitXor a (1 * 2 ^ i % 2 ^ w) ≡ flip a (suc i)
+unfolding flip place
+flip-next a i w h = ap (bitXor a) (pow-shift i w h)
 
 -- a bit as the machine tests it
 pub bit-shift : (x i : ℕ) → 1 ≤ i → eqb (x / 2 ^ (i - 1) % 2) 1 ≡ bit x i

@@ -1,12 +1,12 @@
--- The laws of `pack`, `count`, `any` and `weight`. "For i from 1 to n" is said of `suc i` with i below n.
+-- The laws of `pack`, `count`, `any`, `ranked` and `weight`. "For i from 1 to n" is said of `suc i` with i below n.
 use mathlib.Core.Path.{_≡_, refl, ap, ap₂, sym, _∙_}
 use mathlib.Core.Bool.{Bool, true, false, not, xor, cond, _&&_, _||_, and-false, or-true, or-false, true≢false, false≢true}
 use mathlib.Core.Logic.{⊎-elim}
 use Prim.Native.Nat.{ℕ, zero, suc, _+_, _*_, _-_, _/_, _%_, _^_, _≤_, _<_}
 use native.Mathlib.Nat.{mod-eq-of-lt, mod-one, mod-lt, le-trans, le-of-eq, lt-of-le-of-lt, lt-of-lt-of-le, add-zero, eq-zero-or-pos, pow-succ'}
-use native.Mathlib.Numerals.{add-one, one-add}
+use native.Mathlib.Numerals.{add-one, add-two, add-three, add-four, add-five, one-add}
 use native.Mathlib.Omega.{arith}
-use borrow.Author.Tests.{lt-ltb, eq-eqb, ne-eqb}
+use borrow.Author.Tests.{lt-ltb, eq-eqb, ne-eqb, eqb-false}
 use lib.Bits.{bitXor, xor-lt}
 use lib.Dec.{eqb, ltb}
 use lib.Count.{ones, ones-cat}
@@ -40,6 +40,13 @@ one-bit x i l = sym (one-eqb (x / 2 ^ (i - 1) % 2) (omega arith)) ∙ ap one (bi
 
 pub one-bit-next : (x i : ℕ) → x / 2 ^ i % 2 ≡ one (bit x (i + 1))
 one-bit-next x i = ap (λ (j : ℕ). x / 2 ^ j % 2) (let e : i ≡ i + 1 - 1 = omega arith in e) ∙ one-bit x (i + 1) (omega arith)
+
+-- a bit, but 0 where another is set
+pub one-unless : (m b : Bool) → (1 - one m) * one b ≡ one (not m && b)
+one-unless true true = refl
+one-unless true false = refl
+one-unless false true = refl
+one-unless false false = refl
 
 eqb-one : (b : Bool) → eqb (one b % 2) 1 ≡ b
 eqb-one true = refl
@@ -179,6 +186,12 @@ pub count-step : (p : ℕ → Bool) (i : ℕ) → count p (i + 1) ≡ count p i 
 unfolding count
 count-step p i = rw add-one
 
+-- five dimensions more, written out
+pub count-five : (p : ℕ → Bool) (i : ℕ)
+    → count p i + (one (p (suc i)) + one (p (suc (i + 1))) + one (p (suc (i + 2))) + one (p (suc (i + 3))) + one (p (suc (i + 4)))) ≡ count p (i + 5)
+unfolding count
+count-five p i = rw (add-one, add-two, add-three, add-four, add-five) (omega arith)
+
 one-not : (b : Bool) → one b + one (not b) ≡ 1
 one-not true = refl
 one-not false = refl
@@ -289,6 +302,18 @@ ranked-none p r (suc n) h = go (p (suc n)) refl (ranked-none p r n (omega arith)
     go true e ih = rw (ne-eqb (count p n) r (λ (w : count p n ≡ r). omega (arith, ap one e))) ih
     go false e ih = ih
 
+-- with more than r of them it is one of them
+pub ranked-in : (p : ℕ → Bool) (r n : ℕ) → r < count p n → p (ranked p r n) ≡ true
+unfolding ranked count
+ranked-in p r zero h = absurd (omega arith)
+ranked-in p r (suc n) h = go (p (suc n)) (eqb (count p n) r) refl refl (ranked-in p r n)
+  where
+    go : (b t : Bool) → p (suc n) ≡ b → eqb (count p n) r ≡ t → (r < count p n → p (ranked p r n) ≡ true)
+        → p (cond (b && t) (suc n) (ranked p r n)) ≡ true
+    go true true e k rest = e
+    go true false e k rest = rest (omega (arith, ap one e, eqb-false (count p n) r k))
+    go false t e k rest = rest (omega (arith, ap one e))
+
 -- ---- weight
 
 ones-digit : (d : ℕ) → d < 2 → ones d ≡ one (eqb d 1)
@@ -332,6 +357,9 @@ weight-on n x i hx hi e =
 -- only 0 weighs nothing
 pub weight-zero : (n x : ℕ) → x < 2 ^ n → weight x ≡ 0 → x ≡ 0
 weight-zero n x hx e = bit-ext x 0 n hx (pow-pos n) (λ i l. count-none (bit x) n (sym (weight-below n x hx) ∙ e) i l ∙ sym (bit-zero (suc i)))
+
+pub weight-pos : (n x : ℕ) → x < 2 ^ n → 0 < x → 0 < weight x
+weight-pos n x hx h = ⊎-elim (λ (z : weight x ≡ 0). absurd (omega (arith, weight-zero n x hx z))) (λ l. l) (eq-zero-or-pos (weight x))
 
 -- ---- relative addresses
 

@@ -1,11 +1,11 @@
 -- The laws of replies and of lists of refusals. A list of refusals is a chain of `cond`.
-use mathlib.Core.Path.{_≡_, refl}
+use mathlib.Core.Path.{_≡_, refl, ap, sym, _∙_}
 use mathlib.Core.Bool.{Bool, true, false, cond}
 use mathlib.Core.Logic.{_⊎_, inl, inr}
 use mathlib.Core.List.{List}
 use Prim.Native.Nat.{ℕ, zero, suc, _≤_}
 use native.Mathlib.Omega.{arith}
-use Rattle.cube.specs.Reply.{Reply, refused, accepted, unless, kept}
+use Rattle.cube.specs.Reply.{Reply, refused, accepted, unless, kept, OneAnswer}
 
 -- where nothing refuses, the first test doesn't hold, and no later one does
 pub passed : (t : Bool) (m later : ℕ) → cond t (suc m) later ≡ 0 → (t ≡ false) × (later ≡ 0)
@@ -51,3 +51,8 @@ unless-refused (suc m) r k e = inl (cc)
 -- no refusal is an acceptance
 pub refused-accepted : {A : Type 0} (m : ℕ) (x : A) → refused m ≡ accepted x → ⊥
 refused-accepted m x e = let z : _≡_ {A = ℕ} 0 1 = cc in omega arith
+
+-- answers that can be read back off what they say are told apart by it
+pub one-answer : {A R : Type 0} (said : R → Reply A) (back : Reply A → R) → ((r : R) → back (said r) ≡ r) → OneAnswer said
+unfolding OneAnswer
+one-answer said back h = λ r₁ r₂ e. sym (h r₁) ∙ ap back e ∙ h r₂

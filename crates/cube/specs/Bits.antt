@@ -1,6 +1,6 @@
 -- Numbers seen as bits. Dimension 1 is the lowest bit, and there is no dimension 0.
 use Prim.Native.Nat.{ℕ, zero, suc, _/_, _%_, _^_}
-use mathlib.Core.Bool.{Bool, true, false, _&&_, cond}
+use mathlib.Core.Bool.{Bool, false, _&&_, cond}
 use lib.Dec.{eqb, leb}
 use lib.Bits.{bitXor}
 use lib.Count.{ones}

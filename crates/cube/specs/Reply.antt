@@ -1,5 +1,6 @@
 -- What a job answers, in the paper's terms, and how a list of refusals is read.
 use Prim.Native.Nat.{ℕ, zero, suc}
+use mathlib.Core.Path.{_≡_}
 use mathlib.Core.Bool.{Bool, true, false, cond}
 use mathlib.Core.List.{List, [], _∷_}
 
@@ -32,3 +33,7 @@ numberOf (accepted x) = 0
 abbrev pub isRefusal : {A : Type 0} → Reply A → Bool
 isRefusal (refused m) = true
 isRefusal (accepted x) = false
+
+-- Two answers that say the same are equal: a contract that fixes what is said for an input allows one answer to it.
+unfoldable pub OneAnswer : {A R : Type 0} → (R → Reply A) → Type 0
+OneAnswer {R = R} said = (r₁ r₂ : R) → said r₁ ≡ said r₂ → r₁ ≡ r₂

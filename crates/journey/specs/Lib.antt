@@ -1,2 +1,3 @@
 pub mod Journey
 pub mod Walk
+pub mod Promise

@@ -8,17 +8,18 @@ use vectors::Filled;
 ghost use mathlib.Core.Path.{_≡_};
 ghost use mathlib.Core.Bool.{true, false, _&&_};
 ghost use mathlib.Core.List.{_∷_, _++_};
-ghost use Prim.Native.Nat.{_+_, _-_, _^_, _≤_, _<_};
+ghost use Prim.Native.Nat.{_+_, _-_, _≤_, _<_};
 ghost use lib.Dec.{leb};
 ghost use lib.ListN.{length, take, drop};
-ghost use Rattle.cube.specs.Bits.{bit, flip};
+ghost use Rattle.cube.specs.Bits.{bit};
 ghost use Rattle.cube.specs.Count.{ranked};
-ghost use Rattle.cube.specs.Reply.{accepted, isRefusal};
+ghost use Rattle.cube.specs.Reply.{accepted, isRefusal, OneAnswer};
 ghost use Rattle.routing.specs.Hop as hopping;
 ghost use Rattle.vectors.specs.Fill as filling;
 ghost use Rattle.routing.specs.Decide as deciding;
 ghost use Rattle.routing.specs.Decide.{chosen, decide};
 ghost use Rattle.journey.specs.Journey.{taken, hops, leave, leaving, routeBy, depart, journeyRefusal, journey, arrival, vectorsAfter, pathBy, pathAfter, said};
+ghost use Rattle.journey.specs.Promise.{JourneyWalks, JourneyArrives};
 ghost use Rattle.journey.specs.Walk.{came, stopped, Crossed, Followed, through};
 
 // What Journey answers: the source's kind and the hops made.
@@ -348,3 +349,18 @@ pub fn journey(
     let filled = vectors::fill(n, status, links, vectors);
     by_fill(filled, n, status, links, vectors, picks, path, s, d)
 }
+
+// Journey's path is one of demand 3's walks.
+pub fn journey_walks()
+    ensures { λ r. ⌜ JourneyWalks ⌝ }
+{}
+
+// It ends at the destination, after the hops promised.
+pub fn journey_arrives()
+    ensures { λ r. ⌜ JourneyArrives ⌝ }
+{}
+
+// For every input the contract of `journey` allows one answer.
+pub fn one_trip()
+    ensures { λ r. ⌜ OneAnswer said ⌝ }
+{}

@@ -1,6 +1,5 @@
 -- Open: reads a report record. All numbers are little-endian.
 use Prim.Native.Nat.{ℕ, _+_, _-_, _*_, _^_}
-use mathlib.Core.Path.{_≡_}
 use mathlib.Core.Bool.{not, _&&_}
 use mathlib.Core.List.{List, [], _∷_, _++_}
 use lib.Dec.{eqb, ltb, leb}
@@ -68,7 +67,3 @@ linksAfter bytes status links = kept (openRefusal bytes status links) (linksIn b
 abbrev pub said : Opened → Reply ℕ
 said (Cube n) = accepted n
 said (Refused m) = refused m
-
--- two answers that the contract allows for one input are equal; of the lent slices it says so outright
-unfoldable pub OneAnswer : Type 0
-OneAnswer = (x : Reply ℕ) (r₁ r₂ : Opened) → said r₁ ≡ x → said r₂ ≡ x → r₁ ≡ r₂

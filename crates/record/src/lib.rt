@@ -3,8 +3,9 @@ ghost use mathlib.Core.Path.{_≡_};
 ghost use mathlib.Core.List.{_++_};
 ghost use Prim.Native.Nat.{_+_, _*_, _^_, _<_, _≤_};
 ghost use lib.ListN.{length, drop};
+ghost use Rattle.cube.specs.Reply.{OneAnswer};
 ghost use Rattle.report.specs.Report.{narrow};
-ghost use Rattle.record.specs.Open.{word, nIn, statusIn, linkIn, linksIn, openRefusal, opened, statusAfter, linksAfter, said, OneAnswer};
+ghost use Rattle.record.specs.Open.{word, nIn, statusIn, linkIn, linksIn, openRefusal, opened, statusAfter, linksAfter, said};
 
 // What Open answers.
 pub enum Opened {
@@ -143,7 +144,7 @@ pub fn open(bytes: &[u8], status: &mut [u8], links: &mut [u16]) -> Opened
     Opened::Cube(n)
 }
 
-// For every input the contract of `open` allows one answer.
+// For every input the contract of `open` allows one answer; the lent slices are given by `statusAfter` and `linksAfter`.
 pub fn one_answer()
-    ensures { λ r. ⌜ OneAnswer ⌝ }
+    ensures { λ r. ⌜ OneAnswer said ⌝ }
 {}

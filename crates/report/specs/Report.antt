@@ -1,6 +1,6 @@
 -- What a report says: which boards work, which links count as faulty, and which reports are acceptable.
 use Prim.Native.Nat.{ℕ, _^_, min}
-use mathlib.Core.Bool.{Bool, true, false, _&&_}
+use mathlib.Core.Bool.{Bool, true, _&&_}
 use mathlib.Core.List.{List, [], _∷_}
 use lib.Dec.{eqb, leb, ltb}
 use lib.ListN.{length, getD}

@@ -7,7 +7,7 @@ use native.Mathlib.Omega.{arith}
 use borrow.Author.Tests.{not-true}
 use Rattle.cube.specs.Bits.{bit, flip, weight}
 use Rattle.cube.proofs.Bits.{flip-lt}
-use Rattle.cube.proofs.Count.{bit-pack, pack-each, pack-find, pack-some, pack-not, pack-own, weight-le, weight-on}
+use Rattle.cube.proofs.Count.{pack-lt, bit-pack, pack-each, pack-find, pack-some, pack-not, pack-own, weight-le, weight-on}
 use Rattle.cube.specs.Reply.{accepted}
 use Rattle.cube.proofs.Reply.{refused-accepted}
 use Rattle.report.specs.Health.{Cube}
@@ -27,6 +27,11 @@ offer-each C bits dims a P each =
     let among = and-eq-true-iff (bit dims (suc j)) (registered (C .cut) bits a (suc j)) .0 e in
     let has = and-eq-true-iff (not (C .cut a (suc j))) (bits (flip a (suc j))) .0 (among .1) in
     each j l (among .0) (not-true _ (has .0)) (has .1))
+
+-- a mask has no dimension above n
+pub offer-lt : (C : Cube) (bits : ℕ → Bool) (dims a : ℕ) → offer C bits dims a < 2 ^ (C .dim)
+unfolding offer
+offer-lt C bits dims a = pack-lt (borne C bits dims a) (C .dim)
 
 -- a mask that is not 0 offers some dimension
 pub offer-find : (C : Cube) (bits : ℕ → Bool) (dims a : ℕ) → 0 < offer C bits dims a → (i : ℕ) × (bit (offer C bits dims a) i ≡ true)

@@ -4,12 +4,10 @@ use cube::Node;
 ghost use mathlib.Core.Path.{_≡_};
 ghost use mathlib.Core.Bool.{true, false, _&&_};
 ghost use mathlib.Core.List.{List};
-ghost use Prim.Native.Nat.{ℕ, suc, _^_, _≤_, _<_};
-ghost use lib.Bits.{bitXor};
-ghost use lib.Dec.{eqb};
+ghost use Prim.Native.Nat.{ℕ, _^_, _≤_, _<_};
 ghost use Rattle.cube.specs.Bits.{bit, weight};
 ghost use Rattle.cube.specs.Count.{one};
-ghost use Rattle.cube.specs.Reply.{numberOf};
+ghost use Rattle.cube.specs.Reply.{numberOf, OneAnswer};
 ghost use Rattle.report.specs.Report.{cut, cube};
 ghost use Rattle.vectors.specs.Safety.{registered};
 ghost use Rattle.vectors.specs.Held.{own};
@@ -219,11 +217,11 @@ fn at_node(n: u32, links: &[u16], vectors: &[u16], a: Node, nav: Nav) -> Step
     requires { ⌜ n ≤ 10 ⌝ }
     ensures { λ r. ⌜ ((status : List ℕ) → hopping.said r ≡ atNode (cube n status (now (links .entry))) (own (now (vectors .entry))) (a .0) (nav .0) (weight (nav .0))) ⌝ }
 {
-    let h = nav.weight();
-    if h == 0 {
+    let away = nav.weight();
+    if away == 0 {
         return Step::Arrived;
     }
-    proceed(mask(n, links, vectors, nav.0, a, h - 1))
+    proceed(mask(n, links, vectors, nav.0, a, away - 1))
 }
 
 // Hop: the hop at a later node a with a relative address, over lent vectors.
@@ -236,3 +234,13 @@ pub fn hop(n: u32, status: &[u8], links: &[u16], vectors: &[u16], a: Node, nav: 
     }
     at_node(n, links, vectors, a, nav)
 }
+
+// For every input the contract of `decide` allows one answer.
+pub fn one_decision()
+    ensures { λ r. ⌜ OneAnswer deciding.said ⌝ }
+{}
+
+// For every input the contract of `hop` allows one answer.
+pub fn one_step()
+    ensures { λ r. ⌜ OneAnswer hopping.said ⌝ }
+{}

@@ -1,18 +1,22 @@
 -- What is read off Fill's table is Definition 1.
-use mathlib.Core.Path.{_≡_, refl, ap, _∙_}
+use mathlib.Core.Path.{_≡_, refl, ap, ap₂, sym, _∙_}
 use mathlib.Core.Bool.{Bool, true, false, and-false}
 use mathlib.Core.List.{List}
-use Prim.Native.Nat.{ℕ, zero, suc, _^_, _≤_, _<_}
+use Prim.Native.Nat.{ℕ, zero, suc, min, _+_, _-_, _*_, _/_, _%_, _^_, _≤_, _<_}
+use native.Mathlib.Numerals.{add-one, one-add}
 use native.Mathlib.Omega.{arith}
 use borrow.Author.Tests.{le-leb, lt-leb}
 use lib.Dec.{leb}
+use lib.Pow.{shr-shr}
 use lib.ListN.{length, getD, List·getD-eq-default}
 use Rattle.cube.specs.Bits.{bit, flip}
 use Rattle.report.specs.Report.{cut}
+use Rattle.cube.specs.Count.{one}
+use Rattle.cube.proofs.Count.{one-bit-next, one-unless}
 use Rattle.cube.proofs.Bits.{bit-zero, bit-high}
 use Rattle.report.specs.Health.{Cube}
 use Rattle.vectors.specs.Safety.{registered, safe, vectors}
-use Rattle.vectors.specs.Held.{own, heard}
+use Rattle.vectors.specs.Held.{held, own, heard}
 use Rattle.vectors.proofs.Safety.{bit-vector, getD-vectors}
 
 -- over Fill's table the own bits are those of Definition 1
@@ -60,3 +64,19 @@ registered-cut cut bits a i h = rw h
 pub registered-sound : (cut : ℕ → ℕ → Bool) (bits : ℕ → Bool) (a i : ℕ) → cut a i ≡ false → registered cut bits a i ≡ bits (flip a i)
 unfolding registered
 registered-sound cut bits a i h = rw h
+
+-- a bit of a vector as the machine reads it, with bit 0 put below the others
+pub held-digit : (w k : ℕ) → (w * 2 + 1) / 2 ^ k % 2 ≡ one (held w k)
+unfolding held
+held-digit w zero = omega arith
+held-digit w (suc k) =
+    ap (λ (x : ℕ). x % 2)
+    (ap (λ (j : ℕ). (w * 2 + 1) / 2 ^ j) (sym (one-add k)) ∙ sym (shr-shr (w * 2 + 1) 1 k) ∙ ap (λ (x : ℕ). x / 2 ^ k) (let e : (w * 2 + 1) / 2 ^ 1 ≡ w = omega arith in e))
+    ∙ (rw add-one at (one-bit-next w k))
+
+-- a registered bit as the machine makes it
+pub registered-digit : (links vectors : List ℕ) (k a i m h : ℕ) → m ≡ one (bit (getD links (min a (flip a i)) 0) i) → h ≡ one (held (getD vectors (flip a i) 0) k)
+    → (1 - m) * h ≡ one (registered (cut links) (own vectors k) a i)
+unfolding registered cut own
+registered-digit links vectors k a i m h em eh =
+    ap₂ (λ (x y : ℕ). (1 - x) * y) em eh ∙ one-unless (bit (getD links (min a (flip a i)) 0) i) (held (getD vectors (flip a i) 0) k)

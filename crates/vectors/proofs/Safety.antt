@@ -5,11 +5,11 @@ use Prim.Native.Nat.{ℕ, zero, suc, _+_, _-_, _^_, _≤_, _<_}
 use native.Mathlib.Omega.{arith}
 use borrow.Author.Tests.{lt-ltb, le-ltb, le-leb, lt-leb, leb-false, not-true}
 use lib.Dec.{leb, ltb}
-use lib.ListN.{length, getD}
+use lib.ListN.{getD}
 use Rattle.cube.specs.Bits.{bit, flip, weight}
 use Rattle.cube.specs.Count.{count, any}
 use Rattle.cube.proofs.Count.{any-count, count-cong, count-not, bit-pack, both, weight-below}
-use Rattle.cube.proofs.Table.{length-table, getD-table}
+use Rattle.cube.proofs.Table.{getD-table}
 use Rattle.report.specs.Health.{Cube}
 use Rattle.vectors.specs.Safety.{registered, supported, safe, bitsOf, vector, vectors}
 
@@ -78,10 +78,6 @@ safe-preferred C k a nav h hn w e =
 pub bit-vector : (C : Cube) (a k : ℕ) → k < C .dim → bit (vector C a) (suc k) ≡ safe C (suc k) a
 unfolding vector bitsOf
 bit-vector C a k h = bit-pack (bitsOf C a) (C .dim) k h
-
-pub length-vectors : (C : Cube) → length (vectors C) ≡ 2 ^ (C .dim)
-unfolding vectors
-length-vectors C = length-table (vector C) (2 ^ (C .dim))
 
 pub getD-vectors : (C : Cube) (a : ℕ) → a < 2 ^ (C .dim) → getD (vectors C) a 0 ≡ vector C a
 unfolding vectors

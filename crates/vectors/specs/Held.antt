@@ -8,11 +8,16 @@ use Rattle.cube.specs.Bits.{bit}
 use Rattle.report.specs.Report.{cut}
 use Rattle.vectors.specs.Safety.{registered}
 
--- own bit k of node a; bit 0 is 1
-unfoldable pub own : List ℕ → ℕ → ℕ → Bool
+-- bit k of a vector; bit 0 is 1
+unfoldable pub held : ℕ → ℕ → Bool
 unfolding bit
-own vectors zero a = true
-own vectors (suc k) a = bit (getD vectors a 0) (suc k)
+held w zero = true
+held w (suc k) = bit w (suc k)
+
+-- own bit k of node a
+unfoldable pub own : List ℕ → ℕ → ℕ → Bool
+unfolding held
+own vectors k a = held (getD vectors a 0) k
 
 -- bit k of a's neighbour along dimension i, as registered at a; along no dimension from 1 to 16 there is none
 unfoldable pub heard : List ℕ → List ℕ → ℕ → ℕ → ℕ → Bool

@@ -1,5 +1,5 @@
 -- `journey::by_decision` meets its contract: a refusal is handed out, and an offer goes on.
-use mathlib.Core.Path.{_≡_, ap, sym, _∙_}
+use mathlib.Core.Path.{ap, sym, _∙_}
 use native.Mathlib.Omega.{arith}
 use borrow.Author.Needs.{needs}
 use denote.Ref.{now}

@@ -25,12 +25,12 @@ loop-holds : tie.Need-loop-holds Inv-loop μ-loop
 unfolding cube
 loop-holds c =
     let s = c .before .before .before .before .before .before .before in
-    (omega arith, refl, c .before .before .clear .ensures ∙ ap (λ (m : ℕ). replicate m 0) (s .pre .1) ∙ after-none (cube (s .args .n) (now (s .args .status)) (now (s .args .links))))
+    (omega arith, refl, c .before .before .clear .ensures ∙ ap (λ (m : ℕ). replicate m 0) (s .pre .2) ∙ after-none (cube (s .args .n) (now (s .args .status)) (now (s .args .links))))
 
 round-requires : tie.Need-round-requires Inv-loop μ-loop
 round-requires c κs =
     let s = c .before .before .before .before .before .before .before .before .before .before in
-    (s .pre .0, omega arith, c .before .before .loop .inv .2)
+    (s .pre .0, omega arith, s .pre .1, c .before .before .loop .inv .2)
 
 add-k : tie.Need-add-k Inv-loop μ-loop
 add-k c = search needs

@@ -24,14 +24,15 @@ unfolding cube
 loop-holds c =
     let s = c .before .before .before in
     let a = s .args in
-    let m = midst-start (cube (a .n) (now (a .status)) (now (a .links))) (a .k) (now (a .vectors)) (s .pre .2) in
+    let m = midst-start (cube (a .n) (now (a .status)) (now (a .links))) (a .k) (now (a .vectors)) (s .pre .3) in
     (le-trans (le-of-eq (m .long)) (pow-mono {i = a .n} {j = 10} (s .pre .0)), refl, m)
 
-cast-vectors : tie.Need-cast-vectors Inv-loop μ-loop
-cast-vectors c = search needs
-
 next-bit-requires : tie.Need-next-bit-requires Inv-loop μ-loop
-next-bit-requires c κs = search needs
+unfolding cube
+next-bit-requires c κs =
+    let s = c .before .before .before .before .before .before in
+    let m = c .before .before .loop .inv in
+    (s .pre .0, s .pre .1, omega (arith, m .2 .long), s .pre .2, m .2 .long)
 
 mul-vectors : tie.Need-mul-vectors Inv-loop μ-loop
 mul-vectors c = search needs
@@ -39,8 +40,8 @@ mul-vectors c = search needs
 slice-read-vectors : tie.Need-slice-read-vectors Inv-loop μ-loop
 slice-read-vectors c = search needs
 
-cast-vectors-2 : tie.Need-cast-vectors-2 Inv-loop μ-loop
-cast-vectors-2 c = search needs
+cast-vectors : tie.Need-cast-vectors Inv-loop μ-loop
+cast-vectors c = search needs
 
 shl-vectors : tie.Need-shl-vectors Inv-loop μ-loop
 shl-vectors c = search needs
@@ -100,11 +101,10 @@ round-spec =
     Inv-loop
     μ-loop
     loop-holds
-    cast-vectors
     next-bit-requires
     mul-vectors
     slice-read-vectors
-    cast-vectors-2
+    cast-vectors
     shl-vectors
     add-vectors
     mul-vectors-2

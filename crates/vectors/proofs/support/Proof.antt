@@ -1,20 +1,21 @@
 -- `vectors::support` meets its contract. The loop keeps that the sum is the count along dimensions 1 to i.
 use mathlib.Core.Path.{_≡_, ap, ap₂, sym, _∙_}
-use Prim.Native.Nat.{_+_, _-_, _≤_}
+use Prim.Native.Nat.{ℕ, suc, _+_, _-_, _≤_}
+use native.Mathlib.Numerals.{add-one}
 use native.Mathlib.Omega.{arith}
 use borrow.Author.Needs.{needs}
 use denote.Ref.{now}
 use Rattle.cube.specs.Count.{one, count}
-use Rattle.cube.proofs.Count.{one-le, count-le, count-step}
+use Rattle.cube.proofs.Bits.{flip-lt}
+use Rattle.cube.proofs.Count.{count-le, count-step}
 use Rattle.report.specs.Report.{cut}
 use Rattle.vectors.specs.Safety.{registered}
-use Rattle.vectors.specs.Held.{own, heard}
-use Rattle.vectors.proofs.Held.{heard-at}
+use Rattle.vectors.specs.Held.{own}
 use Rattle.vectors.proofs.support.Statement.{statement}
 use Rattle.vectors.proofs.support.Tie as tie
 
 abbrev Inv-loop : tie.InvT-loop
-Inv-loop n links vectors a k sum₀ i₀ sum i = (i ≤ n) × (sum ≡ count (registered (cut links) (own vectors k) (a .0)) i)
+Inv-loop n links vectors a k sum₀ i₀ sum i = (i ≤ n) × (sum ≡ count (registered (cut links) (own vectors k) a) i)
 
 abbrev μ-loop : tie.MeasureT-loop
 μ-loop n links vectors a k sum₀ i₀ sum i = n - i
@@ -23,23 +24,16 @@ loop-holds : tie.Need-loop-holds Inv-loop μ-loop
 unfolding count
 loop-holds c = search needs
 
-add-heard : tie.Need-add-heard Inv-loop μ-loop
-add-heard c = search needs
-
-heard-requires : tie.Need-heard-requires Inv-loop μ-loop
-heard-requires c κs = search needs
+registered-requires : tie.Need-registered-requires Inv-loop μ-loop
+registered-requires c κs =
+    let s = c .before .before .before .before in
+    let p = s .pre in
+    (omega arith, omega (arith, p .1), rw (p .3) (p .2), rw (p .4) (flip-lt (s .args .n) (s .args .a) (suc (c .before .loop .i)) (p .2) (c .loop-test .taken)))
 
 add-sum : tie.Need-add-sum Inv-loop μ-loop
 add-sum c =
     let a = c .before .before .before .before .before .args in
-    let i = c .before .before .loop .i in
-    omega (
-      arith,
-      c .before .before .loop .inv .1,
-      count-le (registered (cut (now (a .links))) (own (now (a .vectors)) (a .k)) (a .a .0)) i,
-      c .heard .ensures,
-      one-le (heard (now (a .links)) (now (a .vectors)) (a .k) (a .a .0) (i + 1)),
-    )
+    omega (arith, c .before .before .loop .inv .1, count-le (registered (cut (now (a .links))) (own (now (a .vectors)) (a .k)) (a .a)) (c .before .before .loop .i), c .registered .ensures .1)
 
 add-i : tie.Need-add-i Inv-loop μ-loop
 add-i c = search needs
@@ -49,18 +43,14 @@ loop-less c = search needs
 
 loop-again : tie.Need-loop-again Inv-loop μ-loop
 loop-again c =
-    let a = c .before .before .before .before .before .args in (
-      omega arith,
-      ap₂ _+_ (c .before .before .loop .inv .1)
-          (c .heard .ensures ∙ ap one (heard-at (now (a .links)) (now (a .vectors)) (a .k) (a .a .0) (c .before .before .loop .i + 1) (omega arith) (omega arith)))
-          ∙ sym (count-step (registered (cut (now (a .links))) (own (now (a .vectors)) (a .k)) (a .a .0)) (c .before .before .loop .i)),
-    )
+    let a = c .before .before .before .before .before .args in
+    (omega arith, ap₂ _+_ (c .before .before .loop .inv .1) (c .registered .ensures .0 ∙ ap (λ (x : ℕ). one (registered (cut (now (a .links))) (own (now (a .vectors)) (a .k)) (a .a) x)) (sym (add-one (c .before .before .loop .i)))) ∙ sym (count-step (registered (cut (now (a .links))) (own (now (a .vectors)) (a .k)) (a .a)) (c .before .before .loop .i)))
 
 returns : tie.Need-returns Inv-loop μ-loop
 returns c =
     let a = c .before .before .before .before .args in
     let e : c .before .loop .i ≡ a .n = omega arith in
-    c .before .loop .inv .1 ∙ ap (count (registered (cut (now (a .links))) (own (now (a .vectors)) (a .k)) (a .a .0))) e
+    c .before .loop .inv .1 ∙ ap (count (registered (cut (now (a .links))) (own (now (a .vectors)) (a .k)) (a .a))) e
 
 pub support-spec : {M : Type 1} → statement M
 support-spec =
@@ -69,8 +59,7 @@ support-spec =
     Inv-loop
     μ-loop
     loop-holds
-    add-heard
-    heard-requires
+    registered-requires
     add-sum
     add-i
     loop-less
