@@ -7,11 +7,18 @@ ghost use Prim.Native.Nat.{_≤_};
 
 // Prints what Decide answers.
 fn answer(decision: Decision) {
-    say::say(b": ");
     match decision {
         Decision::Accepted(kind) => say::kind(kind),
         Decision::Refused(by) => say::refused(by),
     }
+}
+
+// Decides, and prints source, destination and answer.
+fn decide(n: u32, status: &[u8], links: &[u16], vectors: &[u16], s: u16, d: u16) {
+    let decision = routing::decide(n, status, links, vectors, Node(s), Node(d));
+    say::ends(s, d);
+    say::say(b": ");
+    answer(decision);
     say::say(b"\n");
 }
 
@@ -19,17 +26,15 @@ fn answer(decision: Decision) {
 fn sized(n: u32, status: usize, links: usize, vectors: usize, s: u16, d: u16)
     requires { ⌜ (status ≤ 17) × (links ≤ 17) × (vectors ≤ 17) ⌝ }
 {
-    let decision = routing::decide(
+    say::sized(b"decide", n, status, links, vectors);
+    decide(
         n,
         &cabinets::STATUS_F[0..status],
         &cabinets::SOUND[0..links],
         &cabinets::VECTORS_F[0..vectors],
-        Node(s),
-        Node(d),
+        s,
+        d,
     );
-    say::sized(b"decide", n, status, links, vectors);
-    say::ends(s, d);
-    answer(decision);
 }
 
 // Decides in cabinet F over its vectors.
@@ -41,33 +46,22 @@ fn in_f(s: u16, d: u16) {
 fn over(vector: u16, word: u16, s: u16, d: u16) {
     let vectors = [vector; 16];
     let links = [word; 16];
-    let decision = routing::decide(
-        4,
-        &cabinets::STATUS_F[0..16],
-        &links,
-        &vectors,
-        Node(s),
-        Node(d),
-    );
     say::number(b"decide n=4, every vector ", vector as u64);
     say::number(b", every link word ", word as u64);
-    say::ends(s, d);
-    answer(decision);
+    decide(4, &cabinets::STATUS_F[0..16], &links, &vectors, s, d);
 }
 
 // Decides in cabinet L over its vectors.
 fn in_l(s: u16, d: u16) {
-    let decision = routing::decide(
+    say::say(b"decide L");
+    decide(
         4,
         &cabinets::STATUS_L,
         &cabinets::LINKS_L,
         &cabinets::VECTORS_L,
-        Node(s),
-        Node(d),
+        s,
+        d,
     );
-    say::say(b"decide L");
-    say::ends(s, d);
-    answer(decision);
 }
 
 // The refusals before the rules.

@@ -6,16 +6,22 @@ use cube::Node;
 use routing::Step;
 ghost use Prim.Native.Nat.{_≤_};
 
-// Prints where a message is, and what Hop answers.
-fn answer(a: u16, nav: u16, step: Step) {
-    say::number(b", at ", a as u64);
-    say::number(b" by ", nav as u64);
-    say::say(b": ");
+// Prints what Hop answers.
+fn answer(step: Step) {
     match step {
         Step::Arrived => say::say(b"arrived"),
         Step::Offered(mask) => say::number(b"mask ", mask as u64),
         Step::Refused(by) => say::refused(by),
     }
+}
+
+// Hops, and prints node, relative address and answer.
+fn hop(n: u32, status: &[u8], links: &[u16], vectors: &[u16], a: u16, nav: u16) {
+    let step = routing::hop(n, status, links, vectors, Node(a), Nav(nav));
+    say::number(b", at ", a as u64);
+    say::number(b" by ", nav as u64);
+    say::say(b": ");
+    answer(step);
     say::say(b"\n");
 }
 
@@ -23,16 +29,15 @@ fn answer(a: u16, nav: u16, step: Step) {
 fn sized(n: u32, status: usize, links: usize, vectors: usize, a: u16, nav: u16)
     requires { ⌜ (status ≤ 17) × (links ≤ 17) × (vectors ≤ 17) ⌝ }
 {
-    let step = routing::hop(
+    say::sized(b"hop", n, status, links, vectors);
+    hop(
         n,
         &cabinets::STATUS_F[0..status],
         &cabinets::SOUND[0..links],
         &cabinets::VECTORS_F[0..vectors],
-        Node(a),
-        Nav(nav),
+        a,
+        nav,
     );
-    say::sized(b"hop", n, status, links, vectors);
-    answer(a, nav, step);
 }
 
 // Hops in cabinet F over its vectors.
@@ -42,16 +47,15 @@ fn in_f(a: u16, nav: u16) {
 
 // Hops in cabinet L over its vectors.
 fn in_l(a: u16, nav: u16) {
-    let step = routing::hop(
+    say::say(b"hop L");
+    hop(
         4,
         &cabinets::STATUS_L,
         &cabinets::LINKS_L,
         &cabinets::VECTORS_L,
-        Node(a),
-        Nav(nav),
+        a,
+        nav,
     );
-    say::say(b"hop L");
-    answer(a, nav, step);
 }
 
 // The refusals before the rules.

@@ -32,13 +32,6 @@ fn tell(s: u16, d: u16, trip: Trip) {
     answer(trip);
 }
 
-// Prints the lent vectors and the lent path.
-fn left(vectors: &[u16], path: &[u16]) {
-    say::lent(b", vectors", vectors);
-    say::lent(b", path", path);
-    say::say(b"\n");
-}
-
 // Goes in cabinet F over this many vectors, picks and path words, with this word for node 15.
 fn sized(n: u32, vectors: usize, picks: usize, path: usize, word: u16, s: u16, d: u16)
     requires { ⌜ (vectors ≤ 17) × (picks ≤ 17) × (path ≤ 17) ⌝ }
@@ -65,44 +58,44 @@ fn sized(n: u32, vectors: usize, picks: usize, path: usize, word: u16, s: u16, d
     say::say(b"\n");
 }
 
-// Goes in cabinet F, every pick the same.
-fn in_f(pick: u8, s: u16, d: u16) {
-    let picks = [pick; 5];
+// Goes in a cabinet of dimension 4, and prints what came of it.
+fn go(status: &[u8], links: &[u16], picks: &[u8], s: u16, d: u16) {
     let mut vectors = [say::LENT; 16];
     let mut path = [say::LENT; 6];
     let trip = journey::journey(
         4,
-        &cabinets::STATUS_F[0..16],
-        &cabinets::SOUND[0..16],
+        status,
+        links,
         &mut vectors,
-        &picks,
+        picks,
         &mut path,
         Node(s),
         Node(d),
     );
-    say::number(b"journey F, every pick ", pick as u64);
     tell(s, d, trip);
-    left(&vectors, &path);
+    say::lent(b", vectors", &vectors);
+    say::lent(b", path", &path);
+    say::say(b"\n");
+}
+
+// Goes in cabinet F, every pick the same.
+fn in_f(pick: u8, s: u16, d: u16) {
+    let picks = [pick; 5];
+    say::number(b"journey F, every pick ", pick as u64);
+    go(
+        &cabinets::STATUS_F[0..16],
+        &cabinets::SOUND[0..16],
+        &picks,
+        s,
+        d,
+    );
 }
 
 // Goes in cabinet L, with picks that differ and one more than asked.
 fn in_l(s: u16, d: u16) {
     let picks = [0u8, 1, 2, 3, 4, 5];
-    let mut vectors = [say::LENT; 16];
-    let mut path = [say::LENT; 6];
-    let trip = journey::journey(
-        4,
-        &cabinets::STATUS_L,
-        &cabinets::LINKS_L,
-        &mut vectors,
-        &picks,
-        &mut path,
-        Node(s),
-        Node(d),
-    );
     say::say(b"journey L, picks 0 1 2 3 4 5");
-    tell(s, d, trip);
-    left(&vectors, &path);
+    go(&cabinets::STATUS_L, &cabinets::LINKS_L, &picks, s, d);
 }
 
 // The refusals before filling.
