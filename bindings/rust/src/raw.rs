@@ -101,11 +101,13 @@ mod door {
 // borrowed by `&mut` and so overlap no other, and the door asks nothing else of its callers.
 
 /// The class of a status byte: 0 silent, 1 working, 2 late, 3 down, 4 empty.
+#[inline]
 pub fn class(byte: u8) -> u32 {
     unsafe { door::deruvain_class(byte) }
 }
 
 /// Writes the vectors of all nodes. Gives the refusal number, 0 for done.
+#[inline]
 pub fn fill(n: u32, status: &[u8], links: &[u16], vectors: &mut [u16]) -> u32 {
     unsafe {
         door::deruvain_fill(
@@ -121,6 +123,7 @@ pub fn fill(n: u32, status: &[u8], links: &[u16], vectors: &mut [u16]) -> u32 {
 }
 
 /// What the source may do, over the vectors as lent.
+#[inline]
 pub fn decide(n: u32, status: &[u8], links: &[u16], vectors: &[u16], source: u16, destination: u16) -> Answer {
     unsafe {
         door::deruvain_decide(
@@ -138,6 +141,7 @@ pub fn decide(n: u32, status: &[u8], links: &[u16], vectors: &[u16], source: u16
 }
 
 /// What a later node may do, over the vectors as lent.
+#[inline]
 pub fn hop(n: u32, status: &[u8], links: &[u16], vectors: &[u16], node: u16, relative: u16) -> Answer {
     unsafe {
         door::deruvain_hop(
@@ -156,6 +160,7 @@ pub fn hop(n: u32, status: &[u8], links: &[u16], vectors: &[u16], node: u16, rel
 
 /// Fills the vectors, decides, and hops to the end by the picks; writes the path.
 #[allow(clippy::too_many_arguments)]
+#[inline]
 pub fn journey(
     n: u32,
     status: &[u8],
@@ -186,6 +191,7 @@ pub fn journey(
 }
 
 /// Reads a record into the first 2^n places of `status` and `links`.
+#[inline]
 pub fn open(bytes: &[u8], status: &mut [u8], links: &mut [u16]) -> Opened {
     unsafe {
         door::deruvain_open(
