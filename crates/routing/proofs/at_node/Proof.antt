@@ -25,7 +25,7 @@ mask-requires : tie.Need-mask-requires
 mask-requires c κs =
     let s = c .before .before .before .before in
     let p = s .pre in
-    (p .0, p .1, p .2, p .3, omega (arith, c .before .weight .ensures, weight-le (s .args .n) (s .args .nav .0) (p .4)))
+    (p .0, omega (arith, p .1, p .2), omega (arith, p .1, p .2), p .3, omega (arith, c .before .weight .ensures, weight-le (s .args .n) (s .args .nav .0) (p .4)))
 
 proceed-requires : tie.Need-proceed-requires
 proceed-requires c κs = search needs

@@ -32,7 +32,7 @@ unfolding cube
 next-bit-requires c κs =
     let s = c .before .before .before .before .before .before in
     let m = c .before .before .loop .inv in
-    (s .pre .0, s .pre .1, omega (arith, m .2 .long), s .pre .2, m .2 .long)
+    (s .pre .0, omega arith, omega (arith, m .2 .long), s .pre .2, m .2 .long)
 
 mul-vectors : tie.Need-mul-vectors Inv-loop μ-loop
 mul-vectors c = search needs
