@@ -4,13 +4,23 @@ use mathlib.Core.Bool.{true, false}
 use mathlib.Core.List.{List}
 use Prim.Native.Nat.{ℕ, _+_, _^_, _≤_, _<_}
 use native.Mathlib.Omega.{arith}
-use lib.ListN.{length, getD, drop, length-drop}
+use lib.ListN.{length, getD, drop, length-drop, List·getD-eq-default}
 use lib.Seq.{length-take-le}
 use Rattle.cube.proofs.Table.{length-table, getD-table, table-part}
 use Rattle.cube.specs.Table.{table}
 use Rattle.report.specs.Report.{narrow}
 use Rattle.report.proofs.Report.{narrow-of, wide-of}
-use Rattle.record.specs.Open.{nIn, statusIn, linkIn, linksIn}
+use Rattle.record.specs.Open.{word, nIn, statusIn, linkIn, linksIn}
+
+-- past the end a word reads as 0
+pub word-past : (bytes : List ℕ) (i : ℕ) → length bytes ≤ i → word bytes i ≡ 0
+unfolding word
+word-past bytes i h = rw (List·getD-eq-default bytes 0 h, List·getD-eq-default bytes 0 (let l : length bytes ≤ i + 1 = omega arith in l))
+
+-- and at the last byte as that byte
+pub word-last : (bytes : List ℕ) (i : ℕ) → length bytes ≡ i + 1 → word bytes i ≡ getD bytes i 0
+unfolding word
+word-last bytes i h = rw (List·getD-eq-default bytes 0 (let l : length bytes ≤ i + 1 = omega arith in l)) (omega arith)
 
 -- the status byte of node a
 abbrev pub statusAt : List ℕ → ℕ → ℕ

@@ -23,6 +23,19 @@ fn word(bytes: &[u8], i: usize) -> u16
     low + 256 * high
 }
 
+// The two bytes at i as a number; a byte past the end reads as 0.
+pub fn word_at(bytes: &[u8], i: usize) -> u16
+    ensures { λ r. ⌜ r ≡ word (now (bytes .entry)) i ⌝ }
+{
+    if bytes.len() <= i {
+        return 0;
+    }
+    if bytes.len() == i + 1 {
+        return bytes[i] as u16;
+    }
+    word(bytes, i)
+}
+
 // How many nodes a cube of dimension n has.
 fn nodes_of(n: u32) -> usize
     requires { ⌜ n ≤ 10 ⌝ }

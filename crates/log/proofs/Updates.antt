@@ -1,0 +1,154 @@
+-- What a log says of each node and how many records it skips: of the whole, in parts, and record by record.
+use mathlib.Core.Path.{_≡_, refl, sym, ap, _∙_}
+use mathlib.Core.Bool.{Bool, true, false}
+use mathlib.Core.List.{List, [], _∷_, _++_}
+use Prim.Native.Nat.{ℕ, _+_, _-_, _*_, _^_, _≤_, _<_, min}
+use native.Mathlib.Omega.{arith}
+use lib.ListN.{length, getD, take, drop, set, replicate, length-drop, length-replicate, getD-replicate}
+use Rattle.cube.specs.Count.{one}
+use Rattle.cube.specs.Table.{table}
+use Rattle.cube.specs.Reply.{refused, accepted}
+use Rattle.cube.proofs.Reply.{unless-some, unless-none, kept-some, kept-none}
+use Rattle.cube.proofs.Table.{table-ext, length-table, getD-table}
+use Rattle.log.specs.Log.{records, nodeIn, ages, statusByte, skipped, ahead, heard}
+use Rattle.log.specs.Refresh.{logRefusal, refreshed, statusAfter, younger, updated, updateAfter}
+use Rattle.log.proofs.Records.{records-none, records-at, records-append}
+use Rattle.log.proofs.Refusals.{no-refusal}
+use Rattle.log.proofs.Bytes.{bytes-none, bytes-cons, bytes-append, put-getD, younger-assoc, younger-none, none-younger}
+
+-- the records skipped
+pub skipped-cons : (sweep : ℕ) (r : List ℕ) (rs : List (List ℕ)) → skipped sweep (r ∷ rs) ≡ one (ahead sweep r) + skipped sweep rs
+unfolding skipped
+skipped-cons sweep r rs = refl
+
+pub skipped-append : (sweep : ℕ) (rs ss : List (List ℕ)) → skipped sweep (rs ++ ss) ≡ skipped sweep rs + skipped sweep ss
+unfolding skipped
+skipped-append sweep [] ss = omega arith
+skipped-append sweep (r ∷ rs) ss = omega (arith, skipped-append sweep rs ss)
+
+-- what a log in two parts says of a node
+pub heard-append : (sweep k : ℕ) (log more : List ℕ) (a : ℕ) → length log ≡ 8 * k → heard sweep (log ++ more) a ≡ younger (heard sweep log a) (heard sweep more a)
+unfolding heard
+heard-append sweep k log more a e = rw (records-append k log more e) (bytes-append sweep a (records log) (records more))
+
+-- the bytes after a part of a log
+updated-getD : (sweep : ℕ) (part status : List ℕ) (a : ℕ) → a < length status → getD (updated sweep part status) a 0 ≡ younger (getD status a 0) (heard sweep part a)
+unfolding updated
+updated-getD sweep part status a h = getD-table _ (length status) a h
+
+pub length-updated : (sweep : ℕ) (part status : List ℕ) → length (updated sweep part status) ≡ length status
+unfolding updated
+length-updated sweep part status = length-table _ (length status)
+
+-- a list is what an update leaves if it is as long and has its bytes
+pub updated-ext :
+    (sweep : ℕ) (part status after : List ℕ) →
+    length after ≡ length status →
+    ((a : ℕ) → a < length status → getD after a 0 ≡ younger (getD status a 0) (heard sweep part a)) →
+    after ≡ updated sweep part status
+unfolding updated
+updated-ext sweep part status after e h = table-ext _ (length status) after e h
+
+-- two parts, one after the other
+pub updated-append : (sweep k : ℕ) (log more status : List ℕ) → length log ≡ 8 * k → updated sweep (log ++ more) status ≡ updated sweep more (updated sweep log status)
+updated-append sweep k log more status e =
+    sym (updated-ext sweep (log ++ more) status (updated sweep more (updated sweep log status))
+    (length-updated sweep more (updated sweep log status) ∙ length-updated sweep log status)
+    (λ a h.
+    updated-getD sweep more (updated sweep log status) a (omega (arith, length-updated sweep log status))
+    ∙ rw (updated-getD sweep log status a h, heard-append sweep k log more a e) (younger-assoc _ _ _)))
+
+-- the status bytes where nothing is refused
+pub status-after : (n sweep : ℕ) (log status : List ℕ) → logRefusal n log status ≡ 0 → statusAfter n sweep log status ≡ table (heard sweep log) (2 ^ n)
+unfolding statusAfter
+status-after n sweep log status e = kept-none _ _ status e
+
+-- are those that an update of zeros leaves
+pub from-zeros : (n sweep : ℕ) (log status : List ℕ) → logRefusal n log status ≡ 0 → statusAfter n sweep log status ≡ updated sweep log (replicate (2 ^ n) 0)
+from-zeros n sweep log status e =
+    status-after n sweep log status e
+    ∙ updated-ext sweep log (replicate (2 ^ n) 0) (table (heard sweep log) (2 ^ n))
+    (length-table (heard sweep log) (2 ^ n) ∙ sym (length-replicate (2 ^ n) 0))
+    (λ a h.
+    let l : a < 2 ^ n = omega (arith, length-replicate {A = ℕ} (2 ^ n) 0) in
+    getD-table (heard sweep log) (2 ^ n) a l ∙ rw (getD-replicate {A = ℕ} (2 ^ n) a 0 0 l) (sym (none-younger _)))
+
+-- The bytes where the records before a place have spoken: with the records from there on they say what the whole log says.
+abbrev pub Heard : ℕ → List ℕ → List ℕ → ℕ → List ℕ → Type 0
+Heard sweep log before at status =
+    (a : ℕ) → a < length before → younger (getD status a 0) (heard sweep (drop at log) a) ≡ younger (getD before a 0) (heard sweep log a)
+
+-- a record counts at most once
+pub skip-le : (sweep : ℕ) (r : List ℕ) (x : ℕ) → x ≡ one (ahead sweep r) → x ≤ 1
+skip-le sweep r x e = go (ahead sweep r) e
+  where
+    go : (b : Bool) → x ≡ one b → x ≤ 1
+    go true h = omega arith
+    go false h = omega arith
+
+-- the record at a place of a log
+module _ (sweep : ℕ) (log : List ℕ) (at end : ℕ) (inside : at < length log) (ends : end ≡ min (at + 8) (length log)) where
+  -- counted
+  pub skipped-next : (count x total : ℕ) → count + skipped sweep (records (drop at log)) ≡ total → x ≡ one (ahead sweep (take (end - at) (drop at log))) → count + x + skipped sweep (records (drop end log)) ≡ total
+  skipped-next count x total e here =
+      omega (arith, ap (skipped sweep) (records-at log at end inside ends) ∙ skipped-cons sweep _ (records (drop end log)))
+
+  heard-at : (a : ℕ) → heard sweep (drop at log) a ≡ younger (statusByte (ages sweep a (take (end - at) (drop at log) ∷ []))) (heard sweep (drop end log) a)
+  unfolding heard
+  heard-at a = ap (λ (rs : List (List ℕ)). statusByte (ages sweep a rs)) (records-at log at end inside ends) ∙ bytes-cons sweep a (take (end - at) (drop at log)) (records (drop end log))
+
+  -- heard
+  pub heard-next :
+      (before status after : List ℕ) →
+      length status ≡ length before →
+      Heard sweep log before at status →
+      after
+      ≡ set status (nodeIn (take (end - at) (drop at log)))
+      (younger (getD status (nodeIn (take (end - at) (drop at log))) 0)
+      (statusByte (ages sweep (nodeIn (take (end - at) (drop at log))) (take (end - at) (drop at log) ∷ [])))) →
+      Heard sweep log before end after
+  heard-next before status after long told put =
+      λ a h.
+      rw (put, put-getD sweep (take (end - at) (drop at log)) status a (omega arith))
+      (younger-assoc _ _ _ ∙ ap (younger (getD status a 0)) (sym (heard-at a)) ∙ told a h)
+
+-- the end of a log
+pub skipped-end : (sweep : ℕ) (log : List ℕ) (at : ℕ) → length log ≤ at → skipped sweep (records (drop at log)) ≡ 0
+unfolding skipped
+skipped-end sweep log at h = rw (records-none (drop at log) (rw length-drop (omega arith)))
+
+heard-none : (sweep : ℕ) (log : List ℕ) (at a : ℕ) → length log ≤ at → heard sweep (drop at log) a ≡ 0
+unfolding heard
+heard-none sweep log at a h = rw (records-none (drop at log) (rw length-drop (omega arith))) (bytes-none sweep a)
+
+pub heard-end :
+    (sweep : ℕ) (log before : List ℕ) (at : ℕ) (status : List ℕ) →
+    length log ≤ at →
+    length status ≡ length before →
+    Heard sweep log before at status →
+    status ≡ updated sweep log before
+heard-end sweep log before at status h long told =
+    updated-ext sweep log before status long (λ a l. sym (rw (heard-none sweep log at a h) (younger-none _)) ∙ told a l)
+
+-- what is answered and left behind
+module _ (n sweep : ℕ) (log status : List ℕ) (m : ℕ) (e : m ≡ logRefusal n log status) where
+  pub answer-refused : (m ≡ 0 → ⊥) → refused m ≡ refreshed n sweep log status
+  unfolding refreshed
+  answer-refused some = ap refused e ∙ sym (unless-some (logRefusal n log status) _ (λ z. some (e ∙ z)))
+
+  pub kept-refused : (m ≡ 0 → ⊥) → (status ≡ statusAfter n sweep log status) × (status ≡ updateAfter n sweep log status)
+  unfolding statusAfter updateAfter
+  kept-refused some =
+      (sym (kept-some (logRefusal n log status) _ status (λ z. some (e ∙ z))), sym (kept-some (logRefusal n log status) _ status (λ z. some (e ∙ z))))
+
+  pub answer-done : (count : ℕ) → m ≡ 0 → count ≡ skipped sweep (records log) → accepted count ≡ refreshed n sweep log status
+  unfolding refreshed
+  answer-done count none counted = ap accepted counted ∙ sym (unless-none (logRefusal n log status) _ (sym e ∙ none))
+
+  pub update-done : (after : List ℕ) → m ≡ 0 → after ≡ updated sweep log status → after ≡ updateAfter n sweep log status
+  unfolding updateAfter
+  update-done after none told = told ∙ sym (kept-none (logRefusal n log status) _ status (sym e ∙ none))
+
+  pub refresh-done : (after : List ℕ) → m ≡ 0 → after ≡ updated sweep log (replicate (length status) 0) → after ≡ statusAfter n sweep log status
+  refresh-done after none told =
+      told ∙ rw (no-refusal n log status (sym e ∙ none) .0) (sym (from-zeros n sweep log status (sym e ∙ none)))

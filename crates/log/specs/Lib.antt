@@ -1,0 +1,3 @@
+pub mod Log
+pub mod Refresh
+pub mod Claims

@@ -1,0 +1,208 @@
+// The controller's status log: status bytes made from its records.
+use record::word_at;
+ghost use mathlib.Core.Path.{_≡_};
+ghost use mathlib.Core.List.{[], _∷_};
+ghost use Prim.Native.Nat.{_+_, _≤_, min};
+ghost use lib.ListN.{length, getD, set, replicate};
+ghost use Rattle.cube.specs.Count.{one};
+ghost use Rattle.cube.specs.Reply.{OneAnswer, refusal};
+ghost use Rattle.log.specs.Log.{records, nodeIn, age, ahead, skipped, ages, statusByte};
+ghost use Rattle.log.specs.Refresh.{tests, logRefusal, refreshed, statusAfter, younger, updated, updateAfter, said};
+ghost use Rattle.log.specs.Claims.{AnyOrder, UnheardIsLost, InParts, FromSilence};
+
+// What Refresh answers: how many records from the future were skipped, or the refusal's number.
+pub enum Refreshed {
+    Done(usize),
+    Refused(u32),
+}
+
+// A record's age: the present sweep less its own, wrapping.
+fn age(row: &[u8], sweep: u16) -> u16
+    ensures { λ r. ⌜ r ≡ age sweep (now (row .entry)) ⌝ }
+{
+    std::num::wrapping_sub_u16(sweep, word_at(row, 4))
+}
+
+// 1 for a record from the future, else 0.
+fn skip(row: &[u8], sweep: u16) -> usize
+    ensures { λ r. ⌜ r ≡ one (ahead sweep (now (row .entry))) ⌝ }
+{
+    let age = age(row, sweep);
+    if 32768 <= age { 1 } else { 0 }
+}
+
+// The status byte that a record gives its node: 0 from the future.
+fn byte_of(row: &[u8], sweep: u16) -> u8
+    ensures { λ r. ⌜ r ≡ statusByte (ages sweep (nodeIn (now (row .entry))) (now (row .entry) ∷ [])) ⌝ }
+{
+    let age = age(row, sweep);
+    if 32768 <= age {
+        return 0;
+    }
+    if 252 < age {
+        return 253;
+    }
+    age as u8 + 1
+}
+
+// The younger of two status bytes, 0 being none.
+fn younger(b: u8, c: u8) -> u8
+    ensures { λ r. ⌜ r ≡ younger b c ⌝ }
+{
+    if b == 0 {
+        return c;
+    }
+    if c == 0 {
+        return b;
+    }
+    if b < c { b } else { c }
+}
+
+// The number of a record's refusal, 0 for none.
+fn record_refusal(row: &[u8], n: u32) -> u32
+    ensures { λ r. ⌜ r ≡ refusal (tests n (now (row .entry) ∷ [])) ⌝ }
+{
+    if row.len() != 8 {
+        return 11;
+    }
+    let size = word_at(row, 0);
+    if size != 6 {
+        return 11;
+    }
+    let kind = word_at(row, 2);
+    if kind != 2 {
+        return 11;
+    }
+    if !report::within(n, word_at(row, 6)) {
+        return 12;
+    }
+    0
+}
+
+// Where the record that begins at a place of a log of that length ends.
+fn end_of(at: usize, length: usize) -> usize
+    requires { ⌜ at ≤ length ⌝ }
+    ensures { λ r. ⌜ r ≡ min (at + 8) length ⌝ }
+{
+    if length - at < 8 { length } else { at + 8 }
+}
+
+// The number of the first record's refusal that has one, 0 for none.
+fn records_refusal(log: &[u8], n: u32) -> u32
+    ensures { λ r. ⌜ r ≡ refusal (tests n (records (now (log .entry)))) ⌝ }
+{
+    let mut at: usize = 0;
+    while at < log.len() {
+        let end = end_of(at, log.len());
+        let number = record_refusal(&log[at..end], n);
+        if number != 0 {
+            return number;
+        }
+        at = end;
+    }
+    0
+}
+
+// The number of the first refusal, 0 where there is none.
+fn log_refusal(n: u32, log: &[u8], status: &[u8]) -> u32
+    ensures { λ r. ⌜ r ≡ logRefusal n (now (log .entry)) (now (status .entry)) ⌝ }
+{
+    if !report::dimension(n) {
+        return 1;
+    }
+    if !report::sized(n, status.len()) {
+        return 2;
+    }
+    records_refusal(log, n)
+}
+
+// Lets one record speak for its node, if the status bytes have it.
+fn put(row: &[u8], sweep: u16, status: &mut [u8])
+    ensures { λ _. ⌜ now (status .exit) ≡ set (now (status .entry)) (nodeIn (now (row .entry))) (younger (getD (now (status .entry)) (nodeIn (now (row .entry))) 0) (statusByte (ages sweep (nodeIn (now (row .entry))) (now (row .entry) ∷ [])))) ⌝ }
+{
+    let node = word_at(row, 6) as usize;
+    if status.len() <= node {
+        return;
+    }
+    let byte = byte_of(row, sweep);
+    status[node] = younger(status[node], byte);
+}
+
+// Lets every record of a log speak, and counts those from the future.
+fn put_all(log: &[u8], sweep: u16, status: &mut [u8]) -> usize
+    ensures { λ r. ⌜ r ≡ skipped sweep (records (now (log .entry))) ⌝ }
+    ensures { λ _. ⌜ now (status .exit) ≡ updated sweep (now (log .entry)) (now (status .entry)) ⌝ }
+{
+    let mut at: usize = 0;
+    let mut count: usize = 0;
+    while at < log.len() {
+        let end = end_of(at, log.len());
+        put(&log[at..end], sweep, status);
+        count += skip(&log[at..end], sweep);
+        at = end;
+    }
+    count
+}
+
+// Makes every status byte 0: no board was heard.
+fn clear(status: &mut [u8])
+    ensures { λ _. ⌜ now (status .exit) ≡ replicate (length (now (status .entry))) 0 ⌝ }
+{
+    let mut a: usize = 0;
+    while a < status.len() {
+        status[a] = 0;
+        a += 1;
+    }
+}
+
+// Makes the status bytes of all 2^n nodes from a log, and answers how many of its records are from the future.
+pub fn refresh(n: u32, sweep: u16, log: &[u8], status: &mut [u8]) -> Refreshed
+    ensures { λ r. ⌜ said r ≡ refreshed n sweep (now (log .entry)) (now (status .entry)) ⌝ }
+    ensures { λ _. ⌜ now (status .exit) ≡ statusAfter n sweep (now (log .entry)) (now (status .entry)) ⌝ }
+{
+    let number = log_refusal(n, log, status);
+    if number != 0 {
+        return Refreshed::Refused(number);
+    }
+    clear(status);
+    let count = put_all(log, sweep, status);
+    Refreshed::Done(count)
+}
+
+// Refresh for a log that comes in parts of whole records: over status bytes that are all 0 before the first part.
+pub fn update(n: u32, sweep: u16, part: &[u8], status: &mut [u8]) -> Refreshed
+    ensures { λ r. ⌜ said r ≡ refreshed n sweep (now (part .entry)) (now (status .entry)) ⌝ }
+    ensures { λ _. ⌜ now (status .exit) ≡ updateAfter n sweep (now (part .entry)) (now (status .entry)) ⌝ }
+{
+    let number = log_refusal(n, part, status);
+    if number != 0 {
+        return Refreshed::Refused(number);
+    }
+    let count = put_all(part, sweep, status);
+    Refreshed::Done(count)
+}
+
+// For every input the contracts of `refresh` and `update` allow one answer; the status bytes are given by `statusAfter` and `updateAfter`.
+pub fn one_answer()
+    ensures { λ r. ⌜ OneAnswer said ⌝ }
+{}
+
+// A board unheard is a board lost.
+pub fn a_board_unheard_is_a_board_lost()
+    ensures { λ r. ⌜ UnheardIsLost ⌝ }
+{}
+
+// For a file that isn't refused, the same records in another order give the same answer.
+pub fn any_order()
+    ensures { λ r. ⌜ AnyOrder ⌝ }
+{}
+
+// A log read in parts of whole records gives what the whole log gives.
+pub fn in_parts()
+    ensures { λ r. ⌜ InParts ⌝ }
+{}
+
+// Refresh is Update of bytes that are all 0.
+pub fn from_silence()
+    ensures { λ r. ⌜ FromSilence ⌝ }
+{}
