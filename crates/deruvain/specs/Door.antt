@@ -7,6 +7,7 @@ use Rattle.report.specs.declared.Class.the-variants.{Silent, Working, Late, Dow
 use Rattle.routing.specs.Rules.{Choice, home, assured, lent, detour, maskOf, hopsOf, Next, arrived, onward}
 use Rattle.deruvain.specs.declared.Answer.{Answer}
 use Rattle.deruvain.specs.declared.Record.{Record}
+use Rattle.deruvain.specs.declared.Refresh.{Refresh}
 
 -- the classes, in the order of document 01
 abbrev pub classNumber : Class → ℕ
@@ -50,3 +51,8 @@ Travelled r (accepted a) = Says r 0 (kindNumber (a .0)) (maskOf (a .0)) (a .1)
 abbrev pub Read : Record → Reply ℕ → Type 0
 Read r (refused m) = (r .refusal ≡ m) × (r .n ≡ 0)
 Read r (accepted n) = (r .refusal ≡ 0) × (r .n ≡ n)
+
+-- what Refresh's answer becomes
+abbrev pub Skipped : Refresh → Reply ℕ → Type 0
+Skipped r (refused m) = (r .refusal ≡ m) × (r .skipped ≡ 0)
+Skipped r (accepted k) = (r .refusal ≡ 0) × (r .skipped ≡ k)

@@ -2,6 +2,7 @@
 use cube::Nav;
 use cube::Node;
 use journey::Trip;
+use log::Refreshed;
 use record::Opened;
 use report::Class;
 use routing::Decision;
@@ -16,7 +17,8 @@ ghost use Rattle.routing.specs.Decide as deciding;
 ghost use Rattle.routing.specs.Hop as hopping;
 ghost use Rattle.journey.specs.Journey as travelling;
 ghost use Rattle.record.specs.Open as opening;
-ghost use Rattle.deruvain.specs.Door.{classNumber, kindNumber, Says, Decided, Hopped, Travelled, Read};
+ghost use Rattle.log.specs.Refresh as refreshing;
+ghost use Rattle.deruvain.specs.Door.{classNumber, kindNumber, Says, Decided, Hopped, Travelled, Read, Skipped};
 
 // A job's answer: the refusal's number, 0 for an acceptance, and the acceptance's numbers, 0 after a refusal.
 #[repr(C)]
@@ -32,6 +34,13 @@ pub struct Answer {
 pub struct Record {
     pub refusal: u32,
     pub n: u32,
+}
+
+// Refresh's answer: the refusal's number, 0 for none, and how many records from the future were skipped, 0 after a refusal.
+#[repr(C)]
+pub struct Refresh {
+    pub refusal: u32,
+    pub skipped: usize,
 }
 
 // The number of a class.
@@ -216,4 +225,29 @@ pub extern "C" fn deruvain_open(bytes: &[u8], status: &mut [u8], links: &mut [u1
     ensures words { λ r. ⌜ now (links .exit) ≡ opening.linksAfter (now (bytes .entry)) (now (status .entry)) (now (links .entry)) ⌝ }
 {
     of_opened(record::open(bytes, status, links))
+}
+
+// Refresh's answer as numbers.
+fn of_refreshed(refreshed: Refreshed) -> Refresh
+    ensures { λ r. ⌜ Skipped r (refreshing.said refreshed) ⌝ }
+{
+    match refreshed {
+        Refreshed::Done(skipped) => Refresh {
+            refusal: 0,
+            skipped,
+        },
+        Refreshed::Refused(number) => Refresh {
+            refusal: number,
+            skipped: 0,
+        },
+    }
+}
+
+// Refresh: the status bytes from a log, and how many of its records are from the future.
+#[no_mangle]
+pub extern "C" fn deruvain_refresh(n: u32, sweep: u16, log: &[u8], status: &mut [u8]) -> Refresh
+    ensures answer { λ r. ⌜ Skipped r (refreshing.refreshed n sweep (now (log .entry)) (now (status .entry))) ⌝ }
+    ensures boards { λ r. ⌜ now (status .exit) ≡ refreshing.statusAfter n sweep (now (log .entry)) (now (status .entry)) ⌝ }
+{
+    of_refreshed(log::refresh(n, sweep, log, status))
 }
