@@ -1,5 +1,5 @@
 #!/usr/bin/env python3
-"""Writes the sample records beside this file, the same bytes each time."""
+"""Writes the sample records and logs beside this file, the same bytes each time."""
 import os
 
 HERE = os.path.dirname(os.path.abspath(__file__))
@@ -38,14 +38,30 @@ def full():
     return cabinet(10, lost, links)
 
 
+def log(entries):
+    """Records of a status log: length 6, kind 2, sweep, node, all little-endian."""
+    return b"".join(x.to_bytes(2, "little") for sweep, node in entries for x in (6, 2, sweep, node))
+
+
+def swept():
+    """A log of cabinet F up to sweep 2: nodes 3, 4, 6 and 9 have no record, an old one, one from the future, one of five sweeps ago."""
+    entries = [(65000, 4), (9, 6)]
+    for sweep in (65533, 65534, 65535, 0, 1, 2):
+        for a in range(16):
+            if a not in (3, 4, 6, 9) and (a + sweep) % 3 == 0 or a == 9 and sweep == 65533:
+                entries.append((sweep, a))
+    return log(entries)
+
+
 SAMPLES = {
-    "cabinet-f": cabinet(4, {a: DOWN for a in (3, 4, 6, 9)}, {}),
-    "cabinet-l": cabinet(4, {11: DOWN}, {0: 2, 12: 1}),
-    "wu-5-cube": cabinet(5, {a: DOWN for a in (13, 14, 17, 20, 21, 24, 25)}, {}),
-    "four-boards": cabinet(2, {2: SILENT}, {}),
-    "full-1024": full(),
+    "cabinet-f.record": cabinet(4, {a: DOWN for a in (3, 4, 6, 9)}, {}),
+    "cabinet-f.log": swept(),
+    "cabinet-l.record": cabinet(4, {11: DOWN}, {0: 2, 12: 1}),
+    "wu-5-cube.record": cabinet(5, {a: DOWN for a in (13, 14, 17, 20, 21, 24, 25)}, {}),
+    "four-boards.record": cabinet(2, {2: SILENT}, {}),
+    "full-1024.record": full(),
 }
 
 for name, data in SAMPLES.items():
-    with open(os.path.join(HERE, name + ".record"), "wb") as out:
+    with open(os.path.join(HERE, name), "wb") as out:
         out.write(data)

@@ -3,3 +3,4 @@ pub mod Bytes
 pub mod Refusals
 pub mod Updates
 pub mod Order
+pub mod Sweeps

@@ -8,12 +8,19 @@ ghost use Rattle.cube.specs.Count.{one};
 ghost use Rattle.cube.specs.Reply.{OneAnswer, refusal};
 ghost use Rattle.log.specs.Log.{records, nodeIn, age, ahead, skipped, ages, statusByte};
 ghost use Rattle.log.specs.Refresh.{tests, logRefusal, refreshed, statusAfter, younger, updated, updateAfter, said};
+ghost use Rattle.log.specs.Sweep.{sweepIn};
 ghost use Rattle.log.specs.Claims.{AnyOrder, UnheardIsLost, InParts, FromSilence};
 
 // What Refresh answers: how many records from the future were skipped, or the refusal's number.
 pub enum Refreshed {
     Done(usize),
     Refused(u32),
+}
+
+// A sweep number as a person types it.
+pub enum Sweep {
+    Number(u16),
+    NoNumber,
 }
 
 // A record's age: the present sweep less its own, wrapping.
@@ -180,6 +187,32 @@ pub fn update(n: u32, sweep: u16, part: &[u8], status: &mut [u8]) -> Refreshed
     }
     let count = put_all(part, sweep, status);
     Refreshed::Done(count)
+}
+
+// The sweep that a text of decimal digits names.
+pub fn sweep_of(text: &[u8]) -> Sweep
+    ensures { λ r. ⌜ r ≡ sweepIn (now (text .entry)) ⌝ }
+{
+    if text.len() == 0 {
+        return Sweep::NoNumber;
+    }
+    let mut x: u32 = 0;
+    let mut i: usize = 0;
+    while i < text.len() {
+        let byte = text[i];
+        if byte < 48 {
+            return Sweep::NoNumber;
+        }
+        if 57 < byte {
+            return Sweep::NoNumber;
+        }
+        x = 10 * x + (byte - 48) as u32;
+        if 65535 < x {
+            return Sweep::NoNumber;
+        }
+        i += 1;
+    }
+    Sweep::Number(x as u16)
 }
 
 // For every input the contracts of `refresh` and `update` allow one answer; the status bytes are given by `statusAfter` and `updateAfter`.

@@ -6,6 +6,7 @@ ghost use lib.ListN.{length, drop};
 ghost use Rattle.cube.specs.Reply.{OneAnswer};
 ghost use Rattle.report.specs.Report.{narrow};
 ghost use Rattle.record.specs.Open.{word, nIn, statusIn, linkIn, linksIn, openRefusal, opened, statusAfter, linksAfter, said};
+ghost use Rattle.record.specs.Restate.{restated, ReadsBack};
 
 // What Open answers.
 pub enum Opened {
@@ -160,4 +161,26 @@ pub fn open(bytes: &[u8], status: &mut [u8], links: &mut [u16]) -> Opened
 // For every input the contract of `open` allows one answer; the lent slices are given by `statusAfter` and `linksAfter`.
 pub fn one_answer()
     ensures { λ r. ⌜ OneAnswer said ⌝ }
+{}
+
+// Puts status bytes in place of a record's own, if it has the room.
+pub fn restate(bytes: &mut [u8], status: &[u8])
+    ensures { λ _. ⌜ now (bytes .exit) ≡ restated (now (bytes .entry)) (now (status .entry)) ⌝ }
+{
+    if bytes.len() < 5 {
+        return;
+    }
+    if bytes.len() - 5 < status.len() {
+        return;
+    }
+    let mut a: usize = 0;
+    while a < status.len() {
+        bytes[5 + a] = status[a];
+        a += 1;
+    }
+}
+
+// A record that Open reads, restated, is one that Open reads, with the same n and link words and the status bytes given.
+pub fn reads_back()
+    ensures { λ r. ⌜ ReadsBack ⌝ }
 {}
