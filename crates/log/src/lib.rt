@@ -35,7 +35,7 @@ fn skip(row: &[u8], sweep: u16) -> usize
     ensures { λ r. ⌜ r ≡ one (ahead sweep (now (row .entry))) ⌝ }
 {
     let age = age(row, sweep);
-    if 32768 <= age { 1 } else { 0 }
+    if age < 32768 { 0 } else { 1 }
 }
 
 // The status byte that a record gives its node: 0 from the future.
@@ -101,9 +101,9 @@ fn records_refusal(log: &[u8], n: u32) -> u32
     let mut at: usize = 0;
     while at < log.len() {
         let end = end_of(at, log.len());
-        let number = record_refusal(&log[at..end], n);
-        if number != 0 {
-            return number;
+        let first = record_refusal(&log[at..end], n);
+        if first != 0 {
+            return first;
         }
         at = end;
     }
@@ -181,12 +181,12 @@ pub fn update(n: u32, sweep: u16, part: &[u8], status: &mut [u8]) -> Refreshed
     ensures { λ r. ⌜ said r ≡ refreshed n sweep (now (part .entry)) (now (status .entry)) ⌝ }
     ensures { λ _. ⌜ now (status .exit) ≡ updateAfter n sweep (now (part .entry)) (now (status .entry)) ⌝ }
 {
-    let number = log_refusal(n, part, status);
-    if number != 0 {
-        return Refreshed::Refused(number);
+    let refused = log_refusal(n, part, status);
+    if refused != 0 {
+        return Refreshed::Refused(refused);
     }
-    let count = put_all(part, sweep, status);
-    Refreshed::Done(count)
+    let skipped = put_all(part, sweep, status);
+    Refreshed::Done(skipped)
 }
 
 // The sweep that a text of decimal digits names.

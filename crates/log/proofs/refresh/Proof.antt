@@ -1,5 +1,6 @@
 -- `log::refresh` meets its contract: a refusal changes nothing, and else the records speak over bytes that are all 0.
-use mathlib.Core.Path.{ap, _∙_}
+use mathlib.Core.Path.{_≡_, ap, _∙_}
+use native.Mathlib.Omega.{arith}
 use denote.Ref.{now}
 use Rattle.log.specs.Refresh.{updated}
 use Rattle.log.proofs.Updates.{answer-refused, kept-refused, answer-done, refresh-done}
@@ -16,9 +17,10 @@ same-length c = search needs
 returns : tie.Need-returns
 returns c =
     let a = c .before .before .before .before .before .args in
-    let e = c .before .log-refusal .ensures in (
-      answer-refused (a .n) (a .sweep) (now (a .log)) (now (a .status)) _ e (c .if1 .taken),
-      kept-refused (a .n) (a .sweep) (now (a .log)) (now (a .status)) _ e (c .if1 .taken) .0,
+    let e = c .before .log-refusal .ensures in
+    let some : c .before .log-refusal .result ≡ 0 → ⊥ = λ z. absurd (omega arith) in (
+      answer-refused (a .n) (a .sweep) (now (a .log)) (now (a .status)) _ e some,
+      kept-refused (a .n) (a .sweep) (now (a .log)) (now (a .status)) _ e some .0,
     )
 
 clear-requires : tie.Need-clear-requires
@@ -34,7 +36,7 @@ returns-2 : tie.Need-returns-2
 returns-2 c =
     let a = c .before .before .before .before .before .before .before .before .before .before .before .before .before .args in
     let e = c .before .before .before .before .before .before .before .before .before .log-refusal .ensures in
-    let none = c .before .before .before .before .before .before .before .before .if1 .left in
+    let none : c .before .before .before .before .before .before .before .before .before .log-refusal .result ≡ 0 = omega arith in
     let told = c .before .before .put-all .ensures in (
       answer-done (a .n) (a .sweep) (now (a .log)) (now (a .status)) _ e _ none (told .0),
       refresh-done (a .n) (a .sweep) (now (a .log)) (now (a .status)) _ e _ none (told .1 ∙ ap (updated (a .sweep) (now (a .log))) (c .before .before .before .before .before .before .clear .ensures)),
