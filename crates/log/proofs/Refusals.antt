@@ -15,6 +15,35 @@ use Rattle.log.specs.Log.{records, nodeIn, wellFormed}
 use Rattle.log.specs.Refresh.{tests, logRefusal}
 use Rattle.log.proofs.Records.{records-none, records-at, records-append}
 
+-- one record's tests, in turn
+module _ (n : ℕ) (r : List ℕ) where
+  malformed : wellFormed r ≡ false → refusal (tests n (r ∷ [])) ≡ 11
+  unfolding tests refusal
+  malformed e = rw e
+
+  pub refuse-short : (length r ≡ 8 → ⊥) → refusal (tests n (r ∷ [])) ≡ 11
+  unfolding wellFormed
+  refuse-short h = malformed (rw (ne-eqb (length r) 8 h))
+
+  pub refuse-size : (word r 0 ≡ 6 → ⊥) → refusal (tests n (r ∷ [])) ≡ 11
+  unfolding wellFormed
+  refuse-size h = malformed (rw (ne-eqb (word r 0) 6 h, and-false))
+
+  pub refuse-kind : (word r 2 ≡ 2 → ⊥) → refusal (tests n (r ∷ [])) ≡ 11
+  unfolding wellFormed
+  refuse-kind h = malformed (rw (ne-eqb (word r 2) 2 h, and-false, and-false))
+
+  module _ (whole : length r ≡ 8) (size : word r 0 ≡ 6) (kind : word r 2 ≡ 2) where
+    by-node : refusal (tests n (r ∷ [])) ≡ cond (not (within n (nodeIn r))) 12 0
+    unfolding tests refusal wellFormed
+    by-node = rw (eq-eqb (length r) 8 whole, eq-eqb (word r 0) 6 size, eq-eqb (word r 2) 2 kind)
+
+    pub refuse-node : within n (nodeIn r) ≡ false → refusal (tests n (r ∷ [])) ≡ 12
+    refuse-node e = by-node ∙ rw e
+
+    pub refuse-none : within n (nodeIn r) ≡ true → refusal (tests n (r ∷ [])) ≡ 0
+    refuse-none e = by-node ∙ rw e
+
 -- the first of two numbers that is not 0
 abbrev pub first : ℕ → ℕ → ℕ
 first m later = cond (eqb m 0) later m
@@ -67,35 +96,6 @@ no-refusal n log status e =
     let p = passed (not (dimension n)) 0 _ e in
     let q = passed (not (sized n status)) 1 _ (p .1) in
     (eqb-true (length status) (2 ^ n) (not-false _ (q .0)), q .1)
-
--- one record's tests, in turn
-module _ (n : ℕ) (r : List ℕ) where
-  malformed : wellFormed r ≡ false → refusal (tests n (r ∷ [])) ≡ 11
-  unfolding tests refusal
-  malformed e = rw e
-
-  pub refuse-short : (length r ≡ 8 → ⊥) → refusal (tests n (r ∷ [])) ≡ 11
-  unfolding wellFormed
-  refuse-short h = malformed (rw (ne-eqb (length r) 8 h))
-
-  pub refuse-size : (word r 0 ≡ 6 → ⊥) → refusal (tests n (r ∷ [])) ≡ 11
-  unfolding wellFormed
-  refuse-size h = malformed (rw (ne-eqb (word r 0) 6 h, and-false))
-
-  pub refuse-kind : (word r 2 ≡ 2 → ⊥) → refusal (tests n (r ∷ [])) ≡ 11
-  unfolding wellFormed
-  refuse-kind h = malformed (rw (ne-eqb (word r 2) 2 h, and-false, and-false))
-
-  module _ (whole : length r ≡ 8) (size : word r 0 ≡ 6) (kind : word r 2 ≡ 2) where
-    by-node : refusal (tests n (r ∷ [])) ≡ cond (not (within n (nodeIn r))) 12 0
-    unfolding tests refusal wellFormed
-    by-node = rw (eq-eqb (length r) 8 whole, eq-eqb (word r 0) 6 size, eq-eqb (word r 2) 2 kind)
-
-    pub refuse-node : within n (nodeIn r) ≡ false → refusal (tests n (r ∷ [])) ≡ 12
-    refuse-node e = by-node ∙ rw e
-
-    pub refuse-none : within n (nodeIn r) ≡ true → refusal (tests n (r ∷ [])) ≡ 0
-    refuse-none e = by-node ∙ rw e
 
 -- the record at a place of a log
 module _ (n : ℕ) (log : List ℕ) (at end m : ℕ) (inside : at < length log) (ends : end ≡ min (at + 8) (length log))
