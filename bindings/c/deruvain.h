@@ -15,7 +15,8 @@
  * pointer is never null, not even with length 0, and is aligned for its elements. A slice that a
  * job writes overlaps no other.
  * Any other input is answered: a job refuses what it cannot use, by the lowest number that
- * applies (deruvain_open has an order of its own). The refusals 1 to 6 and 10 change no memory.
+ * applies (deruvain_open and deruvain_refresh have orders of their own). The refusals 1 to 6 and
+ * 10 to 12 change no memory.
  *
  * Link with libderuvain.a, which `rt staticlib deruvain` writes to target/staticlib/.
  */
@@ -51,7 +52,11 @@ enum deruvain_refusal {
     /* no dimension to offer at a later node */
     DERUVAIN_REFUSED_NOTHING_TO_OFFER = 9,
     /* record malformed */
-    DERUVAIN_REFUSED_MALFORMED = 10
+    DERUVAIN_REFUSED_MALFORMED = 10,
+    /* a log's record cut short, or of another length or kind */
+    DERUVAIN_REFUSED_LOG_RECORD = 11,
+    /* a log's record has a node not below 2^n */
+    DERUVAIN_REFUSED_LOG_NODE = 12
 };
 
 /* The class of a status byte. Only working boards are nonfaulty. */
@@ -89,6 +94,12 @@ struct deruvain_answer {
 struct deruvain_opened {
     uint32_t refusal;
     uint32_t n;
+};
+
+/* The answer of refresh. After a refusal skipped is 0. */
+struct deruvain_refreshed {
+    uint32_t refusal;
+    size_t skipped; /* how many of the log's records are from the future */
 };
 
 /* The class of a status byte, an enum deruvain_board_class. */
@@ -150,6 +161,19 @@ struct deruvain_answer deruvain_journey(uint32_t n,
 struct deruvain_opened deruvain_open(const uint8_t *bytes, size_t bytes_len,
                                      uint8_t *status, size_t status_len,
                                      uint16_t *links, size_t links_len);
+
+/*
+ * Reads a status log: records of length (2 bytes, here 6), kind (2 bytes, here 2), sweep number
+ * (2 bytes) and node number (2 bytes), all little-endian. The sweep given is the present one. A
+ * record's age is the present sweep less its own, wrapping past 65535 to 0. A record of age 32768
+ * or more is from the future: it is skipped, and counted. Writes all 2^n status bytes: the age of
+ * a node's youngest record plus 1, but 253 from the age 252 on; 0 for a node with no other records
+ * than skipped ones. In a log that is not refused, the order of the records does not matter.
+ * Refuses by 1, 2, and then by 11, 12 for each record in the log's order, skipped ones too.
+ */
+struct deruvain_refreshed deruvain_refresh(uint32_t n, uint16_t sweep,
+                                           const uint8_t *log, size_t log_len,
+                                           uint8_t *status, size_t status_len);
 
 #ifdef __cplusplus
 }

@@ -35,8 +35,18 @@ pub struct Opened {
     pub n: u32,
 }
 
+/// What [`refresh`] answers. After a refusal `skipped` is 0.
+#[repr(C)]
+#[derive(Clone, Copy, Debug, PartialEq, Eq)]
+pub struct Refreshed {
+    /// 0 if accepted.
+    pub refusal: u32,
+    /// How many of the log's records are from the future.
+    pub skipped: usize,
+}
+
 mod door {
-    use super::{Answer, Opened};
+    use super::{Answer, Opened, Refreshed};
 
     extern "C" {
         pub fn deruvain_class(byte: u8) -> u32;
@@ -94,6 +104,14 @@ mod door {
             links: *mut u16,
             links_len: usize,
         ) -> Opened;
+        pub fn deruvain_refresh(
+            n: u32,
+            sweep: u16,
+            log: *const u8,
+            log_len: usize,
+            status: *mut u8,
+            status_len: usize,
+        ) -> Refreshed;
     }
 }
 
@@ -203,4 +221,10 @@ pub fn open(bytes: &[u8], status: &mut [u8], links: &mut [u16]) -> Opened {
             links.len(),
         )
     }
+}
+
+/// Writes all status bytes from a status log, in this sweep.
+#[inline]
+pub fn refresh(n: u32, sweep: u16, log: &[u8], status: &mut [u8]) -> Refreshed {
+    unsafe { door::deruvain_refresh(n, sweep, log.as_ptr(), log.len(), status.as_mut_ptr(), status.len()) }
 }

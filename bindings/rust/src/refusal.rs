@@ -33,10 +33,14 @@ pub enum Refusal {
     NothingToOffer = 9,
     /// 10: record malformed.
     Malformed = 10,
+    /// 11: a log's record cut short, or of another length or kind.
+    LogRecord = 11,
+    /// 12: a log's record has a node not below 2^n.
+    LogNode = 12,
 }
 
 impl Refusal {
-    const ALL: [Refusal; 10] = [
+    const ALL: [Refusal; 12] = [
         Refusal::Dimension,
         Refusal::Length,
         Refusal::LinkWord,
@@ -47,6 +51,8 @@ impl Refusal {
         Refusal::NotBorneOut,
         Refusal::NothingToOffer,
         Refusal::Malformed,
+        Refusal::LogRecord,
+        Refusal::LogNode,
     ];
 
     /// The number, as the C door gives it.
@@ -81,6 +87,8 @@ impl fmt::Display for Refusal {
             Refusal::NotBorneOut => "own bit says yes, no neighbour bears it out",
             Refusal::NothingToOffer => "no dimension to offer at a later node",
             Refusal::Malformed => "record malformed",
+            Refusal::LogRecord => "a log's record cut short, or of another length or kind",
+            Refusal::LogNode => "a log's record has a node not below 2^n",
         })
     }
 }

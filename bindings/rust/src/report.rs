@@ -89,6 +89,26 @@ impl Report {
         Ok(Report { n: opened.n, status, links })
     }
 
+    /// Writes the status bytes from a status log, as they are in the present sweep. Gives how many
+    /// of the log's records are from the future; these are skipped. After a refusal the report is
+    /// as it was.
+    ///
+    /// ```
+    /// use deruvain::{Refusal, Report};
+    ///
+    /// let mut report = Report::healthy(1)?;
+    /// let log = [6, 0, 2, 0, 0xff, 0xff, 1, 0, 6, 0, 2, 0, 3, 0, 0, 0];
+    /// assert_eq!(report.refresh(2, &log), Ok(1));
+    /// assert_eq!(report.status, [0, 4]);
+    /// assert_eq!(report.refresh(2, &log[1..]), Err(Refusal::LogRecord));
+    /// # Ok::<(), Refusal>(())
+    /// ```
+    pub fn refresh(&mut self, sweep: u16, log: &[u8]) -> Result<usize, Refusal> {
+        let refreshed = raw::refresh(self.n, sweep, log, &mut self.status);
+        Refusal::check(refreshed.refusal)?;
+        Ok(refreshed.skipped)
+    }
+
     /// The class of a node's board, if the report has the node.
     pub fn class(&self, node: Node) -> Option<Class> {
         self.status.get(node.0 as usize).map(|&byte| Class::of(byte))

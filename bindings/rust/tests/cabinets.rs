@@ -98,8 +98,42 @@ fn classes() {
     assert_eq!((f().class(Node(3)), f().class(Node(16))), (Some(Class::Down), None));
 }
 
+/// A status log of these sweeps and nodes.
+fn log(heard: &[(u16, u16)]) -> Vec<u8> {
+    heard.iter().flat_map(|&(sweep, node)| [6, 2, sweep, node]).flat_map(u16::to_le_bytes).collect()
+}
+
+#[test]
+fn sweeps_go_on_past_the_wrap() {
+    let heard = log(&[(65_534, 0), (65_535, 1), (65_535, 2), (1, 2), (3, 3), (2, 4), (3, 4), (32_770, 5), (32_771, 6)]);
+    let mut report = Report::healthy(3).unwrap();
+    assert_eq!(report.refresh(2, &heard), Ok(3));
+    assert_eq!(report.status, [5, 4, 2, 0, 1, 0, 253, 0]);
+    let classes = [0, 1, 3, 6].map(|node| report.class(Node(node)).unwrap());
+    assert_eq!(classes, [Class::Late, Class::Working, Class::Silent, Class::Late]);
+    assert_eq!(report.refresh(65_535, &heard), Ok(4));
+    assert_eq!(report.status, [2, 1, 1, 0, 0, 253, 253, 0]);
+    assert_eq!(report.refresh(2, &[]), Ok(0));
+    assert_eq!(report.status, [0; 8]);
+}
+
+#[test]
+fn a_refused_log_leaves_the_report() {
+    let mut report = f();
+    let mut heard = log(&[(0, 0), (0, 16)]);
+    assert_eq!(report.refresh(0, &heard), Err(Refusal::LogNode));
+    heard.truncate(15);
+    assert_eq!(report.refresh(0, &heard), Err(Refusal::LogRecord));
+    assert_eq!(report, f());
+    report.status.pop();
+    assert_eq!(report.refresh(0, &[]), Err(Refusal::Length));
+    report.n = 11;
+    assert_eq!(report.refresh(0, &[]), Err(Refusal::Dimension));
+    assert_eq!(report.status, f().status[..15]);
+}
+
 #[test]
 fn every_refusal_has_its_number() {
     let numbers: Vec<u32> = (0..20).filter_map(Refusal::of).map(Refusal::number).collect();
-    assert!(numbers.into_iter().eq(1..=10));
+    assert!(numbers.into_iter().eq(1..=12));
 }
