@@ -1,7 +1,7 @@
 //! The C door of the proved archive.
 
 use deruvain::raw;
-use deruvain_model::{Answer, Door, Opened};
+use deruvain_model::{Answer, Door, Opened, Refreshed};
 
 pub struct Archive;
 
@@ -43,5 +43,10 @@ impl Door for Archive {
     fn open(&self, bytes: &[u8], status: &mut [u8], links: &mut [u16]) -> Opened {
         let opened = raw::open(bytes, status, links);
         Opened { refusal: opened.refusal, n: opened.n }
+    }
+
+    fn refresh(&self, n: u32, sweep: u16, log: &[u8], status: &mut [u8]) -> Refreshed {
+        let refreshed = raw::refresh(n, sweep, log, status);
+        Refreshed { refusal: refreshed.refusal, skipped: refreshed.skipped }
     }
 }

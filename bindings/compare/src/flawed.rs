@@ -1,7 +1,8 @@
 //! Doors with one flaw each, to show that the comparison finds it.
 
+use crate::logs;
 use deruvain_model::model::{class, WORKING};
-use deruvain_model::{Answer, Door, Opened, Plain};
+use deruvain_model::{Answer, Door, Opened, Plain, Refreshed};
 
 #[derive(Clone, Copy, Debug, PartialEq, Eq)]
 pub enum Flaw {
@@ -34,10 +35,26 @@ pub enum Flaw {
     OpenWritesBeforeLinks,
     OpenTakesOtherKinds,
     OpenLengthWraps,
+    LogOldestWins,
+    LogLastWins,
+    LogFutureTaken,
+    LogFutureFromOneLater,
+    LogFutureUnchecked,
+    LogAge252Gives252,
+    LogAge253Gives254,
+    LogAgeSaturates,
+    LogOldCounted,
+    LogCountedWhenRefused,
+    LogNodeBeforeKind,
+    LogAllKindsBeforeNodes,
+    LogWritesBeforeRefusal,
+    LogLeavesTheSilent,
+    LogCutEndIgnored,
+    LogLengthWraps,
 }
 
 impl Flaw {
-    pub const ALL: [Flaw; 28] = [
+    pub const ALL: [Flaw; 44] = [
         Flaw::DimensionWraps,
         Flaw::LengthsWrap,
         Flaw::FifthSweepWorks,
@@ -66,6 +83,22 @@ impl Flaw {
         Flaw::OpenWritesBeforeLinks,
         Flaw::OpenTakesOtherKinds,
         Flaw::OpenLengthWraps,
+        Flaw::LogOldestWins,
+        Flaw::LogLastWins,
+        Flaw::LogFutureTaken,
+        Flaw::LogFutureFromOneLater,
+        Flaw::LogFutureUnchecked,
+        Flaw::LogAge252Gives252,
+        Flaw::LogAge253Gives254,
+        Flaw::LogAgeSaturates,
+        Flaw::LogOldCounted,
+        Flaw::LogCountedWhenRefused,
+        Flaw::LogNodeBeforeKind,
+        Flaw::LogAllKindsBeforeNodes,
+        Flaw::LogWritesBeforeRefusal,
+        Flaw::LogLeavesTheSilent,
+        Flaw::LogCutEndIgnored,
+        Flaw::LogLengthWraps,
     ];
 }
 
@@ -146,6 +179,84 @@ impl Flawed {
             2 if self.has(Flaw::DetourBeforeLent) => detour().unwrap_or(answer),
             2 if self.has(Flaw::OwnBitOnly) => detour().unwrap_or(Answer::refused(7)),
             _ => answer,
+        }
+    }
+
+    /// The age of a log's record.
+    fn age(&self, sweep: u16, record: &[u8]) -> u16 {
+        match self.0 {
+            Flaw::LogAgeSaturates => sweep.saturating_sub(logs::sweep(record)),
+            _ => sweep.wrapping_sub(logs::sweep(record)),
+        }
+    }
+
+    fn skips(&self, age: u16) -> bool {
+        match self.0 {
+            Flaw::LogFutureTaken => false,
+            Flaw::LogFutureFromOneLater => age > 32_768,
+            _ => age >= 32_768,
+        }
+    }
+
+    /// The status byte of an age.
+    fn byte(&self, age: u16) -> u8 {
+        match age {
+            252 if self.has(Flaw::LogAge252Gives252) => 252,
+            253 if self.has(Flaw::LogAge253Gives254) => 254,
+            _ => age.min(252) as u8 + 1,
+        }
+    }
+
+    /// The refusal of a log's record, 0 for none.
+    fn refusal_of(&self, n: u32, sweep: u16, record: &[u8]) -> u32 {
+        let whole = record.len() == 8;
+        let malformed = !whole || record[..4] != [6, 0, 2, 0];
+        let outside = whole && logs::node(record) >> n != 0;
+        match (malformed, outside) {
+            (true, false) if !whole && self.has(Flaw::LogCutEndIgnored) => 0,
+            (true, true) if self.has(Flaw::LogNodeBeforeKind) => 12,
+            (true, _) => 11,
+            (_, true) if self.has(Flaw::LogFutureUnchecked) && self.age(sweep, record) >= 32_768 => 0,
+            (_, true) => 12,
+            _ => 0,
+        }
+    }
+
+    /// The refusal of a log, and how many of its bytes come before the first wrong record.
+    fn refusal_in(&self, n: u32, sweep: u16, log: &[u8]) -> Option<(u32, usize)> {
+        let refusals: Vec<u32> = log.chunks(8).map(|record| self.refusal_of(n, sweep, record)).collect();
+        let first = refusals.iter().position(|&refusal| refusal != 0)?;
+        let by_kind = self.has(Flaw::LogAllKindsBeforeNodes) && refusals.contains(&11);
+        Some((if by_kind { 11 } else { refusals[first] }, 8 * first))
+    }
+
+    /// Writes what whole records say, and gives how many were skipped.
+    fn take_in(&self, sweep: u16, log: &[u8], status: &mut [u8]) -> usize {
+        let mut taken = vec![0; status.len()];
+        let mut skipped = 0;
+        for record in log.chunks_exact(8) {
+            let age = self.age(sweep, record);
+            skipped += (self.skips(age) || self.has(Flaw::LogOldCounted) && age > 252) as usize;
+            if !self.skips(age) {
+                let held = &mut taken[logs::node(record) as usize];
+                *held = self.of_two(*held, self.byte(age));
+            }
+        }
+        for (byte, taken) in status.iter_mut().zip(taken) {
+            if taken != 0 || !self.has(Flaw::LogLeavesTheSilent) {
+                *byte = taken;
+            }
+        }
+        skipped
+    }
+
+    /// Which of two bytes of a node counts; the one held is 0 at first.
+    fn of_two(&self, held: u8, next: u8) -> u8 {
+        match self.0 {
+            Flaw::LogLastWins => next,
+            Flaw::LogOldestWins => held.max(next),
+            _ if held == 0 => next,
+            _ => held.min(next),
         }
     }
 }
@@ -253,5 +364,22 @@ impl Door for Flawed {
             _ => {}
         }
         opened
+    }
+
+    fn refresh(&self, n: u32, sweep: u16, log: &[u8], status: &mut [u8]) -> Refreshed {
+        let of_no_record = Plain.refresh(n, sweep, &[], &mut status.to_vec());
+        if of_no_record.refusal != 0 {
+            return of_no_record;
+        }
+        let log = if self.has(Flaw::LogLengthWraps) { &log[..log.len() % 65_536] } else { log };
+        let Some((refusal, before)) = self.refusal_in(n, sweep, log) else {
+            return Refreshed { refusal: 0, skipped: self.take_in(sweep, log, status) };
+        };
+        let mut lost = status.to_vec();
+        let skipped = self.take_in(sweep, &log[..before], &mut lost);
+        if self.has(Flaw::LogWritesBeforeRefusal) {
+            status.copy_from_slice(&lost);
+        }
+        Refreshed { refusal, skipped: if self.has(Flaw::LogCountedWhenRefused) { skipped } else { 0 } }
     }
 }

@@ -1,6 +1,7 @@
 //! Random inputs, whole and damaged.
 
 use crate::input::{Input, Job, Memory};
+use crate::logs;
 use deruvain_model::model::{class, WORKING};
 use deruvain_model::random::Random;
 use deruvain_model::{Door, Model};
@@ -18,12 +19,13 @@ const DIMENSIONS: [(u32, usize); 10] =
 
 /// One call of one of the jobs.
 pub fn input(random: &mut Random) -> Input {
-    match random.below(20) {
+    match random.below(24) {
         0..=3 => fill(random),
         4..=8 => decide(random),
         9..=12 => hop(random),
         13..=16 => journey(random),
-        _ => open(random),
+        17..=19 => open(random),
+        _ => refresh(random),
     }
 }
 
@@ -71,13 +73,35 @@ fn journey(random: &mut Random) -> Input {
     damaged_lengths(random, input)
 }
 
+fn refresh(random: &mut Random) -> Input {
+    let n = dimension(random);
+    let size = size(random, n);
+    let sweep = match random.below(3) {
+        0 => random.word(),
+        1 => random.of(&[0, 1, 251, 252, 253, 254, 32_766, 32_767, 32_768, 65_534, 65_535]),
+        _ => random.below(8) as u16,
+    };
+    let bytes = logs::log(random, size, sweep);
+    let mut status = (0..size).map(|_| random.byte()).collect();
+    while random.once_in(12) {
+        resize(random, &mut status, 1);
+    }
+    let memory = Memory { bytes, status, ..Memory::default() };
+    Input { job: Job::Refresh, n, memory, first: sweep, second: 0 }
+}
+
+/// 2^n, or what it is if n is cut to five bits, or something.
+fn size(random: &mut Random, n: u32) -> usize {
+    match n % 32 {
+        low @ 0..=11 => 1 << low,
+        _ => 1 << random.below(6),
+    }
+}
+
 /// A report for a job, right in its lengths, and nothing else.
 fn report(random: &mut Random, job: Job) -> Input {
     let n = dimension(random);
-    let size = match n % 32 {
-        low @ 0..=11 => 1 << low,
-        _ => 1 << random.below(6),
-    };
+    let size = size(random, n);
     let memory = Memory { status: status(random, size), links: links(random, n, size), ..Memory::default() };
     Input { job, n, memory, first: 0, second: 0 }
 }

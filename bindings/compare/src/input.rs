@@ -10,19 +10,21 @@ pub enum Job {
     Hop,
     Journey,
     Open,
+    Refresh,
 }
 
 impl Job {
-    pub const ALL: [Job; 6] = [Job::Class, Job::Fill, Job::Decide, Job::Hop, Job::Journey, Job::Open];
+    pub const ALL: [Job; 7] = [Job::Class, Job::Fill, Job::Decide, Job::Hop, Job::Journey, Job::Open, Job::Refresh];
 
     pub fn name(self) -> &'static str {
-        ["class", "fill", "decide", "hop", "journey", "open"][self as usize]
+        ["class", "fill", "decide", "hop", "journey", "open", "refresh"][self as usize]
     }
 }
 
 /// The slices of a call, as lent or as they came back. A job that has no use for one leaves it empty.
 #[derive(Clone, Debug, Default, PartialEq, Eq)]
 pub struct Memory {
+    /// The record, or the log at Refresh.
     pub bytes: Vec<u8>,
     pub status: Vec<u8>,
     pub links: Vec<u16>,
@@ -36,7 +38,7 @@ pub struct Input {
     pub job: Job,
     pub n: u32,
     pub memory: Memory,
-    /// The source, the node at Hop, or the byte to class.
+    /// The source, the node at Hop, the sweep at Refresh, or the byte to class.
     pub first: u16,
     /// The destination, or the relative address at Hop.
     pub second: u16,
@@ -56,6 +58,7 @@ impl Input {
 #[derive(Clone, Debug, PartialEq, Eq)]
 pub struct Output {
     /// Fill and Class have a number only: Fill's is the refusal, Class's the kind. Open's n is the kind.
+    /// What Refresh skipped is the kind, and the mask what is above 32 bits of it.
     pub answer: Answer,
     pub memory: Memory,
     /// Whether the memory on both sides of every lent slice is as it was.
@@ -147,6 +150,11 @@ fn answer(door: &dyn Door, input: &Input, lent: &mut LentMemory) -> Answer {
         Job::Open => {
             let opened = door.open(lent.bytes.slice(), status, links);
             Answer { refusal: opened.refusal, kind: opened.n, ..Answer::default() }
+        }
+        Job::Refresh => {
+            let refreshed = door.refresh(n, first, lent.bytes.slice(), status);
+            let skipped = refreshed.skipped as u64;
+            Answer { refusal: refreshed.refusal, kind: skipped as u32, mask: (skipped >> 32) as u32, hops: 0 }
         }
     }
 }

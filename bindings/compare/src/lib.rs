@@ -5,6 +5,7 @@ pub mod archive;
 pub mod flawed;
 pub mod generate;
 pub mod input;
+pub mod logs;
 pub mod run;
 pub mod shrink;
 pub mod tell;

@@ -12,12 +12,12 @@ use deruvain_model::{Answer, Door, Model};
 pub struct Tally {
     pub inputs: usize,
     pub kinds: [usize; 4],
-    pub refusals: [usize; 11],
+    pub refusals: [usize; 13],
 }
 
 pub struct Outcome {
     pub inputs: usize,
-    pub tallies: [Tally; 6],
+    pub tallies: [Tally; 7],
     /// How many inputs had each n; from 12 on in the last place.
     pub dimensions: [usize; 13],
     /// The inputs that showed a difference.

@@ -2,6 +2,7 @@
 
 use crate::generate::{record, set_length};
 use crate::input::{Input, Job, Memory};
+use crate::logs;
 
 /// Tries simpler and simpler inputs, and keeps each that still differs.
 pub fn smallest(input: Input, differs: &dyn Fn(&Input) -> bool) -> Input {
@@ -45,6 +46,7 @@ impl Shrinker<'_> {
         let lower = match self.best.job {
             Job::Class => return false,
             Job::Open => half_of_record,
+            Job::Refresh => half_of_log,
             _ => half,
         };
         let halves = (0..10).flat_map(|i| [(i, false), (i, true)]);
@@ -53,7 +55,11 @@ impl Shrinker<'_> {
 
     fn shorten(&mut self) {
         self.shorten_one(|memory| &mut memory.bytes);
-        self.shorten_record();
+        match self.best.job {
+            Job::Open => self.shorten_record(),
+            Job::Refresh => self.fewer_records(),
+            _ => {}
+        }
         self.shorten_one(|memory| &mut memory.status);
         self.shorten_one(|memory| &mut memory.links);
         self.shorten_one(|memory| &mut memory.vectors);
@@ -78,6 +84,23 @@ impl Shrinker<'_> {
                 set_length(&mut next.memory.bytes);
             }) {}
             cut /= 2;
+        }
+    }
+
+    /// Takes runs of records out of a log; long runs first.
+    fn fewer_records(&mut self) {
+        let mut run = self.best.memory.bytes.len();
+        while run >= 8 {
+            run -= run % 8;
+            let mut from = 0;
+            while from < self.best.memory.bytes.len() {
+                let kept = self.keep_if_differs(|next| {
+                    let to = next.memory.bytes.len().min(from + run);
+                    next.memory.bytes.drain(from..to);
+                });
+                from += if kept { 0 } else { run };
+            }
+            run /= 2;
         }
     }
 
@@ -124,6 +147,9 @@ impl Shrinker<'_> {
     }
 
     fn plain_ends(&mut self) {
+        if self.best.job == Job::Refresh {
+            self.keep_if_differs(first_record_in_sweep_0);
+        }
         for bit in (0..16).rev() {
             self.keep_if_differs(|next| {
                 next.first &= !(1 << bit);
@@ -167,6 +193,37 @@ fn half_of_record(input: &mut Input, i: u32, upper: bool) {
     input.memory.bytes = record(n as u8 - 1, &report);
     keep_half(&mut input.memory.status, n, i, upper);
     keep_half(&mut input.memory.links, n, i, upper);
+}
+
+/// As `half`, with the records of the nodes on that side and of those that the cube does not have.
+fn half_of_log(input: &mut Input, i: u32, upper: bool) {
+    let n = input.n;
+    if !(2..=10).contains(&n) || i >= n {
+        return;
+    }
+    let mut log = Vec::new();
+    for record in input.memory.bytes.chunks_mut(8) {
+        if record.len() == 8 {
+            let node = logs::node(record);
+            if node >> n == 0 && (node >> i & 1 == 1) != upper {
+                continue;
+            }
+            logs::put_node(record, without_bit(node, i));
+        }
+        log.extend_from_slice(record);
+    }
+    input.memory.bytes = log;
+    keep_half(&mut input.memory.status, n, i, upper);
+    input.n -= 1;
+}
+
+/// The same ages, at sweeps of which the first record's is 0.
+fn first_record_in_sweep_0(input: &mut Input) {
+    let Some(first) = input.memory.bytes.chunks_exact(8).next().map(logs::sweep) else { return };
+    for record in input.memory.bytes.chunks_exact_mut(8) {
+        logs::put_sweep(record, logs::sweep(record).wrapping_sub(first));
+    }
+    input.first = input.first.wrapping_sub(first);
 }
 
 fn half_of_slices(memory: &mut Memory, n: u32, i: u32, upper: bool) {

@@ -1,6 +1,7 @@
 //! Inputs, answers and differences as text.
 
 use crate::input::{Input, Job, Memory, Output};
+use crate::logs;
 use deruvain_model::model::class_name;
 use deruvain_model::Answer;
 use std::fmt::{Display, Write};
@@ -13,7 +14,7 @@ pub fn difference(input: &Input, door: &Output, model: &Output) -> String {
     let mut text = call(input);
     let _ = writeln!(text, "  the model: {}", answer(input.job, &model.answer));
     let _ = writeln!(text, "  the door:  {}", answer(input.job, &door.answer));
-    memory(&mut text, &door.memory, &model.memory);
+    memory(&mut text, input.job, &door.memory, &model.memory);
     if !door.margins_kept {
         text += "  the door wrote outside the slices\n";
     }
@@ -26,16 +27,22 @@ fn call(input: &Input) -> String {
     match input.job {
         Job::Class => text += &format!(" of the byte {}\n", input.first),
         Job::Open => text += "\n",
+        Job::Refresh => text += &format!(", n = {}, sweep {}\n", input.n, input.first),
         _ => text += &format!(", n = {}\n", input.n),
     }
     if input.job == Job::Open {
         let _ = writeln!(text, "  record: {} bytes: {}", memory.bytes.len(), hex(&memory.bytes));
     }
+    if input.job == Job::Refresh {
+        let _ = writeln!(text, "  log: {} bytes: {}", memory.bytes.len(), log(&memory.bytes));
+    }
     if input.job != Job::Class {
         slice(&mut text, "status", &memory.status, 1);
+    }
+    if !matches!(input.job, Job::Class | Job::Refresh) {
         slice(&mut text, "links", &memory.links, 0);
     }
-    if !matches!(input.job, Job::Class | Job::Open) {
+    if !matches!(input.job, Job::Class | Job::Open | Job::Refresh) {
         slice(&mut text, "vectors", &memory.vectors, 0);
     }
     if input.job == Job::Journey {
@@ -60,6 +67,20 @@ fn hex(bytes: &[u8]) -> String {
     words.join(" ")
 }
 
+/// A status log by the sweeps and nodes of its records, and in bytes from the first wrong one on.
+fn log(bytes: &[u8]) -> String {
+    let mut words = Vec::new();
+    let mut left = bytes;
+    while let [6, 0, 2, 0, _, _, _, _, after @ ..] = left {
+        words.push(format!("sweep {} node {}", logs::sweep(left), logs::node(left)));
+        left = after;
+    }
+    if !left.is_empty() {
+        words.push(hex(left));
+    }
+    words.join(", ")
+}
+
 /// A slice by its length, its plain value and the places that have another.
 fn slice<T: Copy + PartialEq + Display>(text: &mut String, name: &str, values: &[T], plain: T) {
     let _ = write!(text, "  {name}: {} long, all {plain}", values.len());
@@ -74,21 +95,25 @@ fn slice<T: Copy + PartialEq + Display>(text: &mut String, name: &str, values: &
 fn answer(job: Job, answer: &Answer) -> String {
     let Answer { refusal, kind, mask, hops } = *answer;
     let named = |names: &[&'static str]| names.get(kind as usize).copied().unwrap_or("no such kind");
+    let skipped = (mask as u64) << 32 | kind as u64;
     match job {
         Job::Class if kind < 5 => class_name(kind).to_string(),
         Job::Class => format!("no such class: {kind}"),
         Job::Fill if refusal == 0 => "done".to_string(),
         Job::Fill => format!("refused by {refusal}"),
         _ if *answer == Answer::refused(refusal) && refusal != 0 => format!("refused by {refusal}"),
+        Job::Refresh if refusal != 0 => format!("refused by {refusal}, with {skipped} skipped"),
         _ if refusal != 0 => format!("refused by {refusal}, with kind {kind}, mask {mask}, hops {hops}"),
         Job::Open => format!("n = {kind}"),
+        Job::Refresh => format!("{skipped} skipped"),
         Job::Hop => format!("{}, mask {mask}, hops {hops}", named(&STEPS)),
         Job::Decide | Job::Journey => format!("{}, mask {mask}, hops {hops}", named(&KINDS)),
     }
 }
 
-fn memory(text: &mut String, door: &Memory, model: &Memory) {
-    places(text, "record", &door.bytes, &model.bytes);
+fn memory(text: &mut String, job: Job, door: &Memory, model: &Memory) {
+    let bytes = if job == Job::Refresh { "log" } else { "record" };
+    places(text, bytes, &door.bytes, &model.bytes);
     places(text, "status", &door.status, &model.status);
     places(text, "links", &door.links, &model.links);
     places(text, "vectors", &door.vectors, &model.vectors);

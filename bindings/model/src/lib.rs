@@ -24,6 +24,13 @@ pub struct Opened {
     pub n: u32,
 }
 
+/// What Refresh answers. After a refusal `skipped` is 0.
+#[derive(Clone, Copy, Debug, Default, PartialEq, Eq)]
+pub struct Refreshed {
+    pub refusal: u32,
+    pub skipped: usize,
+}
+
 impl Answer {
     pub fn refused(refusal: u32) -> Answer {
         Answer { refusal, ..Answer::default() }
@@ -37,6 +44,12 @@ impl Answer {
 impl Opened {
     pub fn refused(refusal: u32) -> Opened {
         Opened { refusal, n: 0 }
+    }
+}
+
+impl Refreshed {
+    pub fn refused(refusal: u32) -> Refreshed {
+        Refreshed { refusal, skipped: 0 }
     }
 }
 
@@ -66,6 +79,8 @@ pub trait Door {
     ) -> Answer;
 
     fn open(&self, bytes: &[u8], status: &mut [u8], links: &mut [u16]) -> Opened;
+
+    fn refresh(&self, n: u32, sweep: u16, log: &[u8], status: &mut [u8]) -> Refreshed;
 }
 
 /// A door that opens on the functions of one module.
@@ -108,6 +123,10 @@ macro_rules! door {
 
             fn open(&self, bytes: &[u8], status: &mut [u8], links: &mut [u16]) -> Opened {
                 $module::open(bytes, status, links)
+            }
+
+            fn refresh(&self, n: u32, sweep: u16, log: &[u8], status: &mut [u8]) -> Refreshed {
+                $module::refresh(n, sweep, log, status)
             }
         }
     };

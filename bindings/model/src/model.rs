@@ -1,8 +1,8 @@
-//! The rules of document 01 and Wu's Definition 1, as plain Rust.
+//! The rules of document 01 and Wu's Definition 1, and of the request for the status log, as plain Rust.
 //!
 //! Dimensions and bits count from 1, as in the paper. Nothing here is meant to be fast.
 
-use crate::{Answer, Opened};
+use crate::{Answer, Opened, Refreshed};
 
 pub const SILENT: u32 = 0;
 pub const WORKING: u32 = 1;
@@ -332,6 +332,50 @@ pub fn open(bytes: &[u8], status: &mut [u8], links: &mut [u16]) -> Opened {
     status[..size].copy_from_slice(&bytes[5..5 + size]);
     links[..size].copy_from_slice(&words);
     Opened { refusal: 0, n }
+}
+
+/// The age of a log's record: the present sweep less its own, wrapping.
+fn age(sweep: u16, record: &[u8]) -> usize {
+    (65_536 + sweep as usize - little_endian(&record[4..6])) % 65_536
+}
+
+fn from_the_future(age: usize) -> bool {
+    age >= 32_768
+}
+
+/// The status byte of a node, from the age of its youngest usable record.
+fn heard(youngest: Option<usize>) -> u8 {
+    match youngest {
+        None => 0,
+        Some(age) if age <= 252 => age as u8 + 1,
+        Some(_) => 253,
+    }
+}
+
+/// Refresh: the status bytes from a status log.
+pub fn refresh(n: u32, sweep: u16, log: &[u8], status: &mut [u8]) -> Refreshed {
+    if !dimension_fits(n) {
+        return Refreshed::refused(1);
+    }
+    let size = 2usize.pow(n);
+    if status.len() != size {
+        return Refreshed::refused(2);
+    }
+    for record in log.chunks(8) {
+        if record.len() < 8 || little_endian(&record[0..2]) != 6 || little_endian(&record[2..4]) != 2 {
+            return Refreshed::refused(11);
+        }
+        if little_endian(&record[6..8]) >= size {
+            return Refreshed::refused(12);
+        }
+    }
+    for (a, byte) in status.iter_mut().enumerate() {
+        let own = log.chunks(8).filter(|record| little_endian(&record[6..8]) == a);
+        let usable = own.map(|record| age(sweep, record)).filter(|&age| !from_the_future(age));
+        *byte = heard(usable.min());
+    }
+    let skipped = log.chunks(8).filter(|record| from_the_future(age(sweep, record))).count();
+    Refreshed { refusal: 0, skipped }
 }
 
 /// What the program `listing` prints for a record.

@@ -1,6 +1,6 @@
 //! The jobs as fast, safe, plain Rust: the same rounds over the same slices.
 
-use crate::{Answer, Opened};
+use crate::{Answer, Opened, Refreshed};
 
 pub fn class(byte: u8) -> u32 {
     match byte {
@@ -271,4 +271,59 @@ fn try_open(bytes: &[u8], status: &mut [u8], links: &mut [u16]) -> Result<u32, u
         *link = word(pair);
     }
     Ok(n)
+}
+
+pub fn refresh(n: u32, sweep: u16, log: &[u8], status: &mut [u8]) -> Refreshed {
+    match try_refresh(n, sweep, log, status) {
+        Ok(skipped) => Refreshed { refusal: 0, skipped },
+        Err(refusal) => Refreshed::refused(refusal),
+    }
+}
+
+fn try_refresh(n: u32, sweep: u16, log: &[u8], status: &mut [u8]) -> Result<usize, u32> {
+    if !(1..=10).contains(&n) {
+        return Err(1);
+    }
+    if status.len() != 1 << n {
+        return Err(2);
+    }
+    check_log(n, log)?;
+    Ok(take_in(sweep, log, status))
+}
+
+fn check_log(n: u32, log: &[u8]) -> Result<(), u32> {
+    let records = log.chunks_exact(8);
+    let cut = records.remainder();
+    for record in records {
+        if record[..4] != [6, 0, 2, 0] {
+            return Err(11);
+        }
+        if u16::from_le_bytes([record[6], record[7]]) >> n != 0 {
+            return Err(12);
+        }
+    }
+    if cut.is_empty() {
+        Ok(())
+    } else {
+        Err(11)
+    }
+}
+
+/// Writes the status bytes from a log that was checked, and gives how many records it skipped.
+fn take_in(sweep: u16, log: &[u8], status: &mut [u8]) -> usize {
+    let mut skipped = 0;
+    status.fill(0);
+    for record in log.chunks_exact(8) {
+        let age = sweep.wrapping_sub(u16::from_le_bytes([record[4], record[5]]));
+        if age >= 32_768 {
+            skipped += 1;
+            continue;
+        }
+        let byte = age.min(252) as u8 + 1;
+        let held = &mut status[u16::from_le_bytes([record[6], record[7]]) as usize];
+        if *held == 0 || byte < *held {
+            *held = byte;
+        }
+    }
+    skipped
 }
