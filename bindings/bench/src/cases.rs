@@ -2,6 +2,7 @@
 
 use compare::generate::record;
 use compare::input::Memory;
+use compare::logs;
 use deruvain_model::random::Random;
 use deruvain_model::{Answer, Door, Model};
 use std::cell::RefCell;
@@ -14,13 +15,14 @@ pub enum Job {
     Hop,
     Journey,
     Open,
+    Refresh,
 }
 
 impl Job {
-    pub const ALL: [Job; 5] = [Job::Fill, Job::Decide, Job::Hop, Job::Journey, Job::Open];
+    pub const ALL: [Job; 6] = [Job::Fill, Job::Decide, Job::Hop, Job::Journey, Job::Open, Job::Refresh];
 
     pub fn name(self) -> &'static str {
-        ["Fill", "Decide", "Hop", "Journey", "Open"][self as usize]
+        ["Fill", "Decide", "Hop", "Journey", "Open", "Refresh"][self as usize]
     }
 }
 
@@ -38,13 +40,14 @@ pub fn settings() -> Vec<Setting> {
     largest.into_iter().chain(small).map(|(n, lost, marks)| Setting { n, lost, marks }).collect()
 }
 
-/// A cabinet with its vectors, its record and pairs of working boards.
+/// A cabinet with its vectors, its record, its status log and pairs of working boards.
 pub struct Case {
     pub setting: Setting,
     status: Vec<u8>,
     links: Vec<u16>,
     vectors: Vec<u16>,
     record: Vec<u8>,
+    log: Vec<u8>,
     pairs: Vec<(u16, u16)>,
     lent: RefCell<Memory>,
 }
@@ -54,6 +57,19 @@ const PICKS: [u8; 11] = [0, 1, 2, 3, 4, 5, 6, 7, 8, 9, 10];
 /// Decide and Hop are timed over this many pairs, Journey over the first few of them.
 const PAIRS: usize = 1 << 16;
 const JOURNEYS: usize = 8;
+
+/// The log has these sweeps one after the other, and in each a record of every board. A lost board was
+/// heard last a hundred sweeps before.
+const SWEEPS: [u16; 4] = [65_535, 0, 1, 2];
+const LOST_BEFORE: u16 = 100;
+
+fn log(status: &[u8]) -> Vec<u8> {
+    let heard = |sweep: u16, (a, &byte): (usize, &u8)| match byte {
+        1 => logs::record(sweep, a as u16),
+        _ => logs::record(sweep.wrapping_sub(LOST_BEFORE), a as u16),
+    };
+    SWEEPS.iter().flat_map(|&sweep| status.iter().enumerate().flat_map(move |board| heard(sweep, board))).collect()
+}
 
 impl Case {
     pub fn new(setting: Setting) -> Case {
@@ -71,14 +87,15 @@ impl Case {
         let pairs = (0..PAIRS).map(|_| (random.of(&working), random.of(&working))).collect();
         let report = Memory { status: status.clone(), links: links.clone(), ..Memory::default() };
         let record = record(setting.n as u8, &report);
+        let log = log(&status);
         let lent = Memory { vectors: vec![0; size], path: vec![0; 12], ..report };
-        Case { setting, status, links, vectors, record, pairs, lent: RefCell::new(lent) }
+        Case { setting, status, links, vectors, record, log, pairs, lent: RefCell::new(lent) }
     }
 
     /// How many calls a batch makes.
     pub fn calls(&self, job: Job) -> usize {
         match job {
-            Job::Fill | Job::Open => 1,
+            Job::Fill | Job::Open | Job::Refresh => 1,
             Job::Decide | Job::Hop => PAIRS,
             Job::Journey => JOURNEYS,
         }
@@ -100,6 +117,10 @@ impl Case {
                 .map(|(s, d)| sum(door.journey(n, status, links, &mut lent.vectors, &PICKS, &mut lent.path, s, d)))
                 .sum(),
             Job::Open => door.open(&self.record, &mut lent.status, &mut lent.links).n,
+            Job::Refresh => {
+                let refreshed = door.refresh(n, SWEEPS[3], &self.log, &mut lent.status);
+                refreshed.refusal ^ refreshed.skipped as u32
+            }
         }
     }
 
