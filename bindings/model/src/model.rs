@@ -1,4 +1,4 @@
-//! The rules of document 01 and Wu's Definition 1, and of the request for the status log, as plain Rust.
+//! The rules of document 01 and Wu's Definition 1, and of Ask 1 of document 02, as plain Rust.
 //!
 //! Dimensions and bits count from 1, as in the paper. Nothing here is meant to be fast.
 
