@@ -1,15 +1,16 @@
 -- The laws of status bytes: the younger of two, and what records say one after another.
 use mathlib.Core.Path.{_≡_, refl, sym, ap, _∙_}
-use mathlib.Core.Bool.{Bool, true, false, cond, and-false}
+use mathlib.Core.Bool.{Bool, true, false, not, cond}
 use mathlib.Core.List.{List, [], _∷_, _++_}
 use mathlib.Core.Logic.{⊎-elim}
-use Prim.Native.Nat.{ℕ, zero, suc, _+_, _%_, _≤_, _<_, min}
+use Prim.Native.Nat.{ℕ, zero, suc, _+_, _/_, _%_, _≤_, _<_, min}
 use native.Mathlib.Omega.{arith}
 use borrow.Author.Tests.{leb-true, leb-false, le-leb, lt-leb, eq-eqb, ne-eqb}
 use lib.Dec.{leb}
 use lib.ListN.{length, getD, set}
 use lib.Seq.{getD-set-same, getD-set-other}
-use Rattle.cube.proofs.Order.{eq-or-ne}
+use Rattle.cube.specs.Count.{one}
+use Rattle.cube.proofs.Order.{lt-or-ge, eq-or-ne}
 use Rattle.record.specs.Open.{word}
 use Rattle.log.specs.Log.{nodeIn, age, ahead, usable, ages, ageByte, least, statusByte}
 use Rattle.log.specs.Refresh.{younger}
@@ -66,23 +67,29 @@ pub age-wraps : (sweep : ℕ) (r : List ℕ) (x : ℕ) → x < 65536 → word r 
 unfolding age
 age-wraps sweep r x h l e = omega arith
 
--- a record from the future
-pub ahead-true : (sweep : ℕ) (r : List ℕ) → 32768 ≤ age sweep r → ahead sweep r ≡ true
-unfolding ahead
-ahead-true sweep r h = le-leb 32768 (age sweep r) h
+-- the byte of an age from the future, and of any other
+pub byte-ahead : (x : ℕ) → 32768 ≤ x → cond (leb 32768 x) 0 (ageByte x) ≡ 0
+byte-ahead x h = rw (le-leb 32768 x h)
 
-pub ahead-false : (sweep : ℕ) (r : List ℕ) → age sweep r < 32768 → ahead sweep r ≡ false
-unfolding ahead
-ahead-false sweep r h = lt-leb 32768 (age sweep r) h
+pub byte-aged : (x : ℕ) → x < 32768 → cond (leb 32768 x) 0 (ageByte x) ≡ min (x + 1) 253
+byte-aged x h = rw (lt-leb 32768 x h) (age-byte x)
+
+-- the top bit of an age tells the future
+pub top-bit : (x : ℕ) → x < 65536 → x / 32768 ≡ one (leb 32768 x)
+top-bit x h =
+    ⊎-elim
+    (λ (l : x < 32768). rw (lt-leb 32768 x l) (omega arith))
+    (λ (l : 32768 ≤ x). rw (le-leb 32768 x l) (omega arith))
+    (lt-or-ge x 32768)
 
 -- what a record says of its own node
-pub byte-ahead : (sweep : ℕ) (r : List ℕ) → 32768 ≤ age sweep r → statusByte (ages sweep (nodeIn r) (r ∷ [])) ≡ 0
-unfolding ages usable statusByte
-byte-ahead sweep r h = rw (ahead-true sweep r h, and-false)
-
-pub byte-aged : (sweep : ℕ) (r : List ℕ) → age sweep r < 32768 → statusByte (ages sweep (nodeIn r) (r ∷ [])) ≡ min (age sweep r + 1) 253
-unfolding ages usable statusByte least
-byte-aged sweep r h = rw (eq-eqb (nodeIn r) (nodeIn r) refl, ahead-false sweep r h) (age-byte (age sweep r))
+own-byte : (sweep : ℕ) (r : List ℕ) → statusByte (ages sweep (nodeIn r) (r ∷ [])) ≡ cond (leb 32768 (age sweep r)) 0 (ageByte (age sweep r))
+unfolding ages usable ahead statusByte least
+own-byte sweep r = rw (eq-eqb (nodeIn r) (nodeIn r) refl) (go (leb 32768 (age sweep r)))
+  where
+    go : (t : Bool) → statusByte (cond (not t) (age sweep r ∷ []) []) ≡ cond t 0 (ageByte (age sweep r))
+    go true = refl
+    go false = refl
 
 -- one age more
 status-byte-cons : (x : ℕ) (xs : List ℕ) → statusByte (x ∷ xs) ≡ younger (ageByte x) (statusByte xs)
@@ -129,11 +136,11 @@ silent sweep a r h = rw (ne-eqb (nodeIn r) a h)
 pub put-getD :
     (sweep : ℕ) (r status : List ℕ) (a : ℕ) →
     a < length status →
-    getD (set status (nodeIn r) (younger (getD status (nodeIn r) 0) (statusByte (ages sweep (nodeIn r) (r ∷ []))))) a 0
+    getD (set status (nodeIn r) (younger (getD status (nodeIn r) 0) (cond (leb 32768 (age sweep r)) 0 (ageByte (age sweep r))))) a 0
     ≡ younger (getD status a 0) (statusByte (ages sweep a (r ∷ [])))
 put-getD sweep r status a h =
     ⊎-elim
-    (λ (e : a ≡ nodeIn r). rw e (getD-set-same status (nodeIn r) _ 0 (omega arith)))
+    (λ (e : a ≡ nodeIn r). rw (e, own-byte) (getD-set-same status (nodeIn r) _ 0 (omega arith)))
     (λ (ne : a ≡ nodeIn r → ⊥).
     getD-set-other status (nodeIn r) a _ 0 ne
     ∙ rw (silent sweep a r (λ e. ne (sym e))) (sym (younger-none _)))

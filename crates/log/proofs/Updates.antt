@@ -1,19 +1,21 @@
 -- What a log says of each node and how many records it skips: of the whole, in parts, and record by record.
 use mathlib.Core.Path.{_≡_, refl, sym, ap, _∙_}
-use mathlib.Core.Bool.{Bool, true, false}
+use mathlib.Core.Bool.{Bool, true, false, cond}
 use mathlib.Core.List.{List, [], _∷_, _++_}
-use Prim.Native.Nat.{ℕ, _+_, _-_, _*_, _^_, _≤_, _<_, min}
+use Prim.Native.Nat.{ℕ, _+_, _-_, _*_, _^_, _≤_, _<_}
 use native.Mathlib.Omega.{arith}
+use lib.Dec.{leb}
 use lib.ListN.{length, getD, take, drop, set, replicate, length-drop, length-replicate, getD-replicate}
 use Rattle.cube.specs.Count.{one}
 use Rattle.cube.specs.Table.{table}
 use Rattle.cube.specs.Reply.{refused, accepted}
 use Rattle.cube.proofs.Reply.{unless-some, unless-none, kept-some, kept-none}
 use Rattle.cube.proofs.Table.{table-ext, length-table, getD-table}
-use Rattle.log.specs.Log.{records, nodeIn, ages, statusByte, skipped, ahead, heard}
+use Rattle.log.specs.Log.{records, nodeIn, age, ages, ageByte, statusByte, skipped, ahead, heard}
 use Rattle.log.specs.Refresh.{logRefusal, refreshed, statusAfter, younger, updated, updateAfter}
+use Rattle.log.specs.Sound.{sound}
 use Rattle.log.proofs.Records.{records-none, records-at, records-append}
-use Rattle.log.proofs.Refusals.{no-refusal}
+use Rattle.log.proofs.Refusals.{no-refusal, sound-of}
 use Rattle.log.proofs.Bytes.{bytes-none, bytes-cons, bytes-append, put-getD, younger-assoc, younger-none, none-younger}
 
 -- the records skipped
@@ -79,23 +81,30 @@ Heard sweep log before at status =
     (a : ℕ) → a < length before → younger (getD status a 0) (heard sweep (drop at log) a) ≡ younger (getD before a 0) (heard sweep log a)
 
 -- a record counts at most once
-pub skip-le : (sweep : ℕ) (r : List ℕ) (x : ℕ) → x ≡ one (ahead sweep r) → x ≤ 1
-skip-le sweep r x e = go (ahead sweep r) e
-  where
-    go : (b : Bool) → x ≡ one b → x ≤ 1
-    go true h = omega arith
-    go false h = omega arith
+pub skip-le : (b : Bool) (x : ℕ) → x ≡ one b → x ≤ 1
+skip-le true x e = omega arith
+skip-le false x e = omega arith
 
--- the record at a place of a log
-module _ (sweep : ℕ) (log : List ℕ) (at end : ℕ) (inside : at < length log) (ends : end ≡ min (at + 8) (length log)) where
+-- the whole record at a place of a log, and its age
+module _ (sweep : ℕ) (log : List ℕ) (at x : ℕ) (inside : at + 8 ≤ length log) (aged : x ≡ age sweep (take (at + 8 - at) (drop at log))) where
+  skipped-row : one (leb 32768 x) ≡ one (ahead sweep (take (at + 8 - at) (drop at log)))
+  unfolding ahead
+  skipped-row = rw aged
+
   -- counted
-  pub skipped-next : (count x total : ℕ) → count + skipped sweep (records (drop at log)) ≡ total → x ≡ one (ahead sweep (take (end - at) (drop at log))) → count + x + skipped sweep (records (drop end log)) ≡ total
-  skipped-next count x total e here =
-      omega (arith, ap (skipped sweep) (records-at log at end inside ends) ∙ skipped-cons sweep _ (records (drop end log)))
+  pub skipped-next :
+      (count k total : ℕ) →
+      count + skipped sweep (records (drop at log)) ≡ total →
+      k ≡ one (leb 32768 x) →
+      count + k + skipped sweep (records (drop (at + 8) log)) ≡ total
+  skipped-next count k total e here =
+      omega (arith, skipped-row, ap (skipped sweep) (records-at log at inside) ∙ skipped-cons sweep _ (records (drop (at + 8) log)))
 
-  heard-at : (a : ℕ) → heard sweep (drop at log) a ≡ younger (statusByte (ages sweep a (take (end - at) (drop at log) ∷ []))) (heard sweep (drop end log) a)
+  heard-at : (a : ℕ) → heard sweep (drop at log) a ≡ younger (statusByte (ages sweep a (take (at + 8 - at) (drop at log) ∷ []))) (heard sweep (drop (at + 8) log) a)
   unfolding heard
-  heard-at a = ap (λ (rs : List (List ℕ)). statusByte (ages sweep a rs)) (records-at log at end inside ends) ∙ bytes-cons sweep a (take (end - at) (drop at log)) (records (drop end log))
+  heard-at a =
+      ap (λ (rs : List (List ℕ)). statusByte (ages sweep a rs)) (records-at log at inside)
+      ∙ bytes-cons sweep a (take (at + 8 - at) (drop at log)) (records (drop (at + 8) log))
 
   -- heard
   pub heard-next :
@@ -103,13 +112,12 @@ module _ (sweep : ℕ) (log : List ℕ) (at end : ℕ) (inside : at < length log
       length status ≡ length before →
       Heard sweep log before at status →
       after
-      ≡ set status (nodeIn (take (end - at) (drop at log)))
-      (younger (getD status (nodeIn (take (end - at) (drop at log))) 0)
-      (statusByte (ages sweep (nodeIn (take (end - at) (drop at log))) (take (end - at) (drop at log) ∷ [])))) →
-      Heard sweep log before end after
+      ≡ set status (nodeIn (take (at + 8 - at) (drop at log)))
+      (younger (getD status (nodeIn (take (at + 8 - at) (drop at log))) 0) (cond (leb 32768 x) 0 (ageByte x))) →
+      Heard sweep log before (at + 8) after
   heard-next before status after long told put =
       λ a h.
-      rw (put, put-getD sweep (take (end - at) (drop at log)) status a (omega arith))
+      rw (put, aged, put-getD sweep (take (at + 8 - at) (drop at log)) status a (omega arith))
       (younger-assoc _ _ _ ∙ ap (younger (getD status a 0)) (sym (heard-at a)) ∙ told a h)
 
 -- the end of a log
@@ -140,6 +148,11 @@ module _ (n sweep : ℕ) (log status : List ℕ) (m : ℕ) (e : m ≡ logRefusal
   unfolding statusAfter updateAfter
   kept-refused some =
       (sym (kept-some (logRefusal n log status) _ status (λ z. some (e ∙ z))), sym (kept-some (logRefusal n log status) _ status (λ z. some (e ∙ z))))
+
+  pub sound-none : m ≡ 0 → sound (length status) (records log) ≡ true
+  sound-none none =
+      let p = no-refusal n log status (sym e ∙ none) in
+      rw (p .0) (sound-of n (records log) (p .1))
 
   pub answer-done : (count : ℕ) → m ≡ 0 → count ≡ skipped sweep (records log) → accepted count ≡ refreshed n sweep log status
   unfolding refreshed

@@ -1,4 +1,5 @@
 pub mod Log
 pub mod Refresh
 pub mod Claims
+pub mod Sound
 pub mod Sweep

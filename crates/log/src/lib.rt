@@ -1,15 +1,21 @@
 // The controller's status log: status bytes made from its records.
 use record::word_at;
 ghost use mathlib.Core.Path.{_≡_};
+ghost use mathlib.Core.Bool.{true, cond};
 ghost use mathlib.Core.List.{[], _∷_};
-ghost use Prim.Native.Nat.{_+_, _≤_, min};
+ghost use Prim.Native.Nat.{_<_};
+ghost use lib.Dec.{leb};
 ghost use lib.ListN.{length, getD, set, replicate};
 ghost use Rattle.cube.specs.Count.{one};
 ghost use Rattle.cube.specs.Reply.{OneAnswer, refusal};
-ghost use Rattle.log.specs.Log.{records, nodeIn, age, ahead, skipped, ages, statusByte};
+ghost use Rattle.log.specs.Log.{records, nodeIn, age, skipped, ageByte};
 ghost use Rattle.log.specs.Refresh.{tests, logRefusal, refreshed, statusAfter, younger, updated, updateAfter, said};
+ghost use Rattle.log.specs.Sound.{sound};
 ghost use Rattle.log.specs.Sweep.{sweepIn};
 ghost use Rattle.log.specs.Claims.{AnyOrder, UnheardIsLost, InParts, FromSilence};
+
+// A record's length and kind as one number: 6, and 2 above it.
+const HEAD: u32 = 6 + 65536 * 2;
 
 // What Refresh answers: how many records from the future were skipped, or the refusal's number.
 pub enum Refreshed {
@@ -30,19 +36,17 @@ fn age(row: &[u8], sweep: u16) -> u16
     std::num::wrapping_sub_u16(sweep, word_at(row, 4))
 }
 
-// 1 for a record from the future, else 0.
-fn skip(row: &[u8], sweep: u16) -> usize
-    ensures { λ r. ⌜ r ≡ one (ahead sweep (now (row .entry))) ⌝ }
+// 1 for an age from the future, else 0.
+fn skip(age: u16) -> usize
+    ensures { λ r. ⌜ r ≡ one (leb 32768 age) ⌝ }
 {
-    let age = age(row, sweep);
-    if age < 32768 { 0 } else { 1 }
+    (age / 32768) as usize
 }
 
-// The status byte that a record gives its node: 0 from the future.
-fn byte_of(row: &[u8], sweep: u16) -> u8
-    ensures { λ r. ⌜ r ≡ statusByte (ages sweep (nodeIn (now (row .entry))) (now (row .entry) ∷ [])) ⌝ }
+// The status byte of an age, 0 for one from the future.
+fn byte_of(age: u16) -> u8
+    ensures { λ r. ⌜ r ≡ cond (leb 32768 age) 0 (ageByte age) ⌝ }
 {
-    let age = age(row, sweep);
     if 32768 <= age {
         return 0;
     }
@@ -72,12 +76,8 @@ fn record_refusal(row: &[u8], n: u32) -> u32
     if row.len() != 8 {
         return 11;
     }
-    let size = word_at(row, 0);
-    if size != 6 {
-        return 11;
-    }
-    let kind = word_at(row, 2);
-    if kind != 2 {
+    let head = word_at(row, 0) as u32 + 65536 * word_at(row, 2) as u32;
+    if head != HEAD {
         return 11;
     }
     if !report::within(n, word_at(row, 6)) {
@@ -86,26 +86,21 @@ fn record_refusal(row: &[u8], n: u32) -> u32
     0
 }
 
-// Where the record that begins at a place of a log of that length ends.
-fn end_of(at: usize, length: usize) -> usize
-    requires { ⌜ at ≤ length ⌝ }
-    ensures { λ r. ⌜ r ≡ min (at + 8) length ⌝ }
-{
-    if length - at < 8 { length } else { at + 8 }
-}
-
 // The number of the first record's refusal that has one, 0 for none.
 fn records_refusal(log: &[u8], n: u32) -> u32
     ensures { λ r. ⌜ r ≡ refusal (tests n (records (now (log .entry)))) ⌝ }
 {
     let mut at: usize = 0;
-    while at < log.len() {
-        let end = end_of(at, log.len());
+    while 8 <= log.len() - at {
+        let end = at + 8;
         let first = record_refusal(&log[at..end], n);
         if first != 0 {
             return first;
         }
         at = end;
+    }
+    if at < log.len() {
+        return 11;
     }
     0
 }
@@ -123,29 +118,29 @@ fn log_refusal(n: u32, log: &[u8], status: &[u8]) -> u32
     records_refusal(log, n)
 }
 
-// Lets one record speak for its node, if the status bytes have it.
-fn put(row: &[u8], sweep: u16, status: &mut [u8])
-    ensures { λ _. ⌜ now (status .exit) ≡ set (now (status .entry)) (nodeIn (now (row .entry))) (younger (getD (now (status .entry)) (nodeIn (now (row .entry))) 0) (statusByte (ages sweep (nodeIn (now (row .entry))) (now (row .entry) ∷ [])))) ⌝ }
+// Lets a record of this age speak for its node.
+fn put(row: &[u8], age: u16, status: &mut [u8])
+    requires { ⌜ nodeIn (now row) < length (now status) ⌝ }
+    ensures { λ _. ⌜ now (status .exit) ≡ set (now (status .entry)) (nodeIn (now (row .entry))) (younger (getD (now (status .entry)) (nodeIn (now (row .entry))) 0) (cond (leb 32768 age) 0 (ageByte age))) ⌝ }
 {
     let node = word_at(row, 6) as usize;
-    if status.len() <= node {
-        return;
-    }
-    let byte = byte_of(row, sweep);
+    let byte = byte_of(age);
     status[node] = younger(status[node], byte);
 }
 
 // Lets every record of a log speak, and counts those from the future.
 fn put_all(log: &[u8], sweep: u16, status: &mut [u8]) -> usize
+    requires { ⌜ sound (length (now status)) (records (now log)) ≡ true ⌝ }
     ensures { λ r. ⌜ r ≡ skipped sweep (records (now (log .entry))) ⌝ }
     ensures { λ _. ⌜ now (status .exit) ≡ updated sweep (now (log .entry)) (now (status .entry)) ⌝ }
 {
     let mut at: usize = 0;
     let mut count: usize = 0;
     while at < log.len() {
-        let end = end_of(at, log.len());
-        put(&log[at..end], sweep, status);
-        count += skip(&log[at..end], sweep);
+        let end = at + 8;
+        let age = age(&log[at..end], sweep);
+        count += skip(age);
+        put(&log[at..end], age, status);
         at = end;
     }
     count

@@ -1,7 +1,4 @@
 -- `log::put` meets its contract.
-use mathlib.Core.Path.{sym}
-use native.Mathlib.Omega.{arith}
-use lib.Seq.{set-out}
 use borrow.Author.Needs.{needs}
 use Rattle.log.proofs.put.Statement.{statement}
 use Rattle.log.proofs.put.Tie as tie
@@ -11,9 +8,6 @@ word-at-requires c κs = search needs
 
 cast-node : tie.Need-cast-node
 cast-node c = search needs
-
-returns : tie.Need-returns
-returns c = sym (set-out _ _ _ (omega arith))
 
 byte-of-requires : tie.Need-byte-of-requires
 byte-of-requires c κs = search needs
@@ -30,8 +24,8 @@ slice-write-status c = search needs
 same-length : tie.Need-same-length
 same-length c = search needs
 
-returns-2 : tie.Need-returns-2
-returns-2 c = rw (c .younger .ensures, c .before .before .byte-of .ensures, c .before .before .before .before .word-at .ensures)
+returns : tie.Need-returns
+returns c = rw (c .younger .ensures, c .before .before .byte-of .ensures, c .before .before .before .word-at .ensures)
 
 pub put-spec : {M : Type 1} → statement M
 put-spec =
@@ -39,10 +33,9 @@ put-spec =
     (tie.spec
     word-at-requires
     cast-node
-    returns
     byte-of-requires
     slice-read-younger
     younger-requires
     slice-write-status
     same-length
-    returns-2)
+    returns)

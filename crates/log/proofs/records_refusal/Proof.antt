@@ -8,7 +8,7 @@ use lib.ListN.{length, drop}
 use Rattle.cube.specs.Reply.{refusal}
 use Rattle.log.specs.Log.{records}
 use Rattle.log.specs.Refresh.{tests}
-use Rattle.log.proofs.Refusals.{refuse-at, pass-at, pass-end}
+use Rattle.log.proofs.Refusals.{refuse-at, pass-at, refuse-cut, pass-end}
 use Rattle.log.proofs.records_refusal.Statement.{statement}
 use Rattle.log.proofs.records_refusal.Tie as tie
 
@@ -21,8 +21,11 @@ abbrev μ-loop : tie.MeasureT-loop
 loop-holds : tie.Need-loop-holds Inv-loop μ-loop
 loop-holds c = (omega arith, refl)
 
-end-of-requires : tie.Need-end-of-requires Inv-loop μ-loop
-end-of-requires c κs = search needs
+sub-loop : tie.Need-sub-loop Inv-loop μ-loop
+sub-loop c = omega arith
+
+add-end : tie.Need-add-end Inv-loop μ-loop
+add-end c = omega arith
 
 sub-record-refusal : tie.Need-sub-record-refusal Inv-loop μ-loop
 sub-record-refusal c = omega arith
@@ -38,21 +41,30 @@ record-refusal-requires c κs = search needs
 
 returns : tie.Need-returns Inv-loop μ-loop
 returns c =
-    refuse-at _ _ _ _ _ (omega arith) (c .before .before .before .end-of .ensures) (c .before .record-refusal .ensures) (λ e. absurd (omega arith))
-    ∙ c .before .before .before .before .before .loop .inv .1
+    let d = c .before .before .before .before .before .before .args in
+    let l = c .before .before .before .before .loop in
+    refuse-at (d .n) (now (d .log)) (l .at) _ (omega arith) (c .before .record-refusal .ensures) (λ e. absurd (omega arith)) ∙ l .inv .1
 
 loop-less : tie.Need-loop-less Inv-loop μ-loop
 loop-less c = omega arith
 
 loop-again : tie.Need-loop-again Inv-loop μ-loop
-loop-again c = (
-  omega arith,
-  pass-at _ _ _ _ _ (omega arith) (c .before .before .before .end-of .ensures) (c .before .record-refusal .ensures) (omega arith)
-      ∙ c .before .before .before .before .before .loop .inv .1,
-)
+loop-again c =
+    let d = c .before .before .before .before .before .before .args in
+    let l = c .before .before .before .before .loop in
+    (omega arith, pass-at (d .n) (now (d .log)) (l .at) _ (omega arith) (c .before .record-refusal .ensures) (omega arith) ∙ l .inv .1)
 
 returns-2 : tie.Need-returns-2 Inv-loop μ-loop
-returns-2 c = sym (sym (c .before .loop .inv .1) ∙ pass-end _ (now (c .before .before .before .args .log)) (c .before .loop .at) (omega arith))
+returns-2 c =
+    let d = c .before .before .before .before .args in
+    let l = c .before .before .loop in
+    sym (sym (l .inv .1) ∙ refuse-cut (d .n) (now (d .log)) (l .at) (omega arith) (omega arith))
+
+returns-3 : tie.Need-returns-3 Inv-loop μ-loop
+returns-3 c =
+    let d = c .before .before .before .before .args in
+    let l = c .before .before .loop in
+    sym (sym (l .inv .1) ∙ pass-end (d .n) (now (d .log)) (l .at) (omega arith))
 
 pub records-refusal-spec : {M : Type 1} → statement M
 records-refusal-spec =
@@ -61,7 +73,8 @@ records-refusal-spec =
     Inv-loop
     μ-loop
     loop-holds
-    end-of-requires
+    sub-loop
+    add-end
     sub-record-refusal
     part-record-refusal-start
     part-record-refusal-end
@@ -69,4 +82,5 @@ records-refusal-spec =
     returns
     loop-less
     loop-again
-    returns-2)
+    returns-2
+    returns-3)

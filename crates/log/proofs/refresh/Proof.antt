@@ -1,9 +1,13 @@
 -- `log::refresh` meets its contract: a refusal changes nothing, and else the records speak over bytes that are all 0.
 use mathlib.Core.Path.{_≡_, ap, _∙_}
 use native.Mathlib.Omega.{arith}
+use Prim.Native.Nat.{ℕ}
 use denote.Ref.{now}
+use lib.ListN.{length, length-replicate}
+use Rattle.log.specs.Log.{records}
+use Rattle.log.specs.Sound.{sound}
 use Rattle.log.specs.Refresh.{updated}
-use Rattle.log.proofs.Updates.{answer-refused, kept-refused, answer-done, refresh-done}
+use Rattle.log.proofs.Updates.{answer-refused, kept-refused, sound-none, answer-done, refresh-done}
 use borrow.Author.Needs.{needs}
 use Rattle.log.proofs.refresh.Statement.{statement}
 use Rattle.log.proofs.refresh.Tie as tie
@@ -27,7 +31,11 @@ clear-requires : tie.Need-clear-requires
 clear-requires c κs = search needs
 
 put-all-requires : tie.Need-put-all-requires
-put-all-requires c κs = search needs
+put-all-requires c κs =
+    let a = c .before .before .before .before .before .before .before .before .before .before .args in
+    let none : c .before .before .before .before .before .before .log-refusal .result ≡ 0 = omega arith in
+    ap (λ (k : ℕ). sound k (records (now (a .log)))) (ap length (c .before .before .before .clear .ensures) ∙ length-replicate {A = ℕ} (length (now (a .status))) 0)
+    ∙ sound-none (a .n) (a .sweep) (now (a .log)) (now (a .status)) _ (c .before .before .before .before .before .before .log-refusal .ensures) none
 
 same-length-2 : tie.Need-same-length-2
 same-length-2 c = search needs

@@ -1,6 +1,6 @@
 -- `log::update` meets its contract: a refusal changes nothing, and else the records speak over the bytes there are.
 use denote.Ref.{now}
-use Rattle.log.proofs.Updates.{answer-refused, kept-refused, answer-done, update-done}
+use Rattle.log.proofs.Updates.{answer-refused, kept-refused, sound-none, answer-done, update-done}
 use borrow.Author.Needs.{needs}
 use Rattle.log.proofs.update.Statement.{statement}
 use Rattle.log.proofs.update.Tie as tie
@@ -20,7 +20,9 @@ returns c =
     )
 
 put-all-requires : tie.Need-put-all-requires
-put-all-requires c κs = search needs
+put-all-requires c κs =
+    let a = c .before .before .before .before .before .before .args in
+    sound-none (a .n) (a .sweep) (now (a .part)) (now (a .status)) _ (c .before .before .log-refusal .ensures) (c .before .if1 .left)
 
 same-length-2 : tie.Need-same-length-2
 same-length-2 c = search needs
