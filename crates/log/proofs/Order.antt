@@ -8,7 +8,7 @@ use Rattle.cube.specs.Reply.{refusal, unless}
 use Rattle.cube.specs.Table.{table}
 use Rattle.cube.proofs.Table.{table-ext, length-table, getD-table}
 use Rattle.cube.proofs.Order.{eq-or-ne}
-use Rattle.log.specs.Log.{records, ages, statusByte, skipped, heard}
+use Rattle.log.specs.Log.{records, ages, statusByte, skipped, tells}
 use Rattle.log.specs.Refresh.{tests, logRefusal, refreshed, statusAfter}
 use Rattle.log.specs.Claims.{Reordered, same, swap, keep, then}
 use Rattle.log.proofs.Bytes.{bytes-cons, younger-swap}
@@ -52,10 +52,10 @@ module _ (n : ℕ) where
   tests-order (keep {r} {rs} {ss} p) none = let q = apart r rs none in together r ss (q .0) (tests-order p (q .1))
   tests-order (then p q) none = tests-order q (tests-order p none)
 
--- what a log of the same records says of a node
-pub heard-order : (sweep : ℕ) (log other : List ℕ) (a : ℕ) → Reordered (records log) (records other) → heard sweep other a ≡ heard sweep log a
-unfolding heard
-heard-order sweep log other a p = bytes-order sweep a p
+-- what a log of the same records tells of a node
+pub tells-order : (sweep : ℕ) (log other : List ℕ) (a : ℕ) → Reordered (records log) (records other) → tells sweep other a ≡ tells sweep log a
+unfolding tells
+tells-order sweep log other a p = bytes-order sweep a p
 
 -- the same records in another order are not refused either
 module _ (n sweep : ℕ) (log other status : List ℕ) (none : logRefusal n log status ≡ 0) (p : Reordered (records log) (records other)) where
@@ -71,6 +71,6 @@ module _ (n sweep : ℕ) (log other status : List ℕ) (none : logRefusal n log 
   pub same-status : statusAfter n sweep other status ≡ statusAfter n sweep log status
   same-status =
       status-after n sweep other status none-either
-      ∙ sym (table-ext (heard sweep other) (2 ^ n) (table (heard sweep log) (2 ^ n)) (length-table (heard sweep log) (2 ^ n))
-      (λ a h. getD-table (heard sweep log) (2 ^ n) a h ∙ sym (heard-order sweep log other a p)))
+      ∙ sym (table-ext (tells sweep other) (2 ^ n) (table (tells sweep log) (2 ^ n)) (length-table (tells sweep log) (2 ^ n))
+      (λ a h. getD-table (tells sweep log) (2 ^ n) a h ∙ sym (tells-order sweep log other a p)))
       ∙ sym (status-after n sweep log status none)

@@ -1,4 +1,4 @@
--- What a log says of each node and how many records it skips: of the whole, in parts, and record by record.
+-- What a log tells of each node and how many records it skips: of the whole, in parts, and record by record.
 use mathlib.Core.Path.{_≡_, refl, sym, ap, _∙_}
 use mathlib.Core.Bool.{Bool, true, false, cond}
 use mathlib.Core.List.{List, [], _∷_, _++_}
@@ -11,7 +11,7 @@ use Rattle.cube.specs.Table.{table}
 use Rattle.cube.specs.Reply.{refused, accepted}
 use Rattle.cube.proofs.Reply.{unless-some, unless-none, kept-some, kept-none}
 use Rattle.cube.proofs.Table.{table-ext, length-table, getD-table}
-use Rattle.log.specs.Log.{records, nodeIn, age, ages, ageByte, statusByte, skipped, ahead, heard}
+use Rattle.log.specs.Log.{records, nodeIn, age, ages, ageByte, statusByte, skipped, ahead, tells}
 use Rattle.log.specs.Refresh.{logRefusal, refreshed, statusAfter, younger, updated, updateAfter}
 use Rattle.log.specs.Sound.{sound}
 use Rattle.log.proofs.Records.{records-none, records-at, records-append}
@@ -28,13 +28,13 @@ unfolding skipped
 skipped-append sweep [] ss = omega arith
 skipped-append sweep (r ∷ rs) ss = omega (arith, skipped-append sweep rs ss)
 
--- what a log in two parts says of a node
-pub heard-append : (sweep k : ℕ) (log more : List ℕ) (a : ℕ) → length log ≡ 8 * k → heard sweep (log ++ more) a ≡ younger (heard sweep log a) (heard sweep more a)
-unfolding heard
-heard-append sweep k log more a e = rw (records-append k log more e) (bytes-append sweep a (records log) (records more))
+-- what a log in two parts tells of a node
+pub tells-append : (sweep k : ℕ) (log more : List ℕ) (a : ℕ) → length log ≡ 8 * k → tells sweep (log ++ more) a ≡ younger (tells sweep log a) (tells sweep more a)
+unfolding tells
+tells-append sweep k log more a e = rw (records-append k log more e) (bytes-append sweep a (records log) (records more))
 
 -- the bytes after a part of a log
-updated-getD : (sweep : ℕ) (part status : List ℕ) (a : ℕ) → a < length status → getD (updated sweep part status) a 0 ≡ younger (getD status a 0) (heard sweep part a)
+updated-getD : (sweep : ℕ) (part status : List ℕ) (a : ℕ) → a < length status → getD (updated sweep part status) a 0 ≡ younger (getD status a 0) (tells sweep part a)
 unfolding updated
 updated-getD sweep part status a h = getD-table _ (length status) a h
 
@@ -46,7 +46,7 @@ length-updated sweep part status = length-table _ (length status)
 pub updated-ext :
     (sweep : ℕ) (part status after : List ℕ) →
     length after ≡ length status →
-    ((a : ℕ) → a < length status → getD after a 0 ≡ younger (getD status a 0) (heard sweep part a)) →
+    ((a : ℕ) → a < length status → getD after a 0 ≡ younger (getD status a 0) (tells sweep part a)) →
     after ≡ updated sweep part status
 unfolding updated
 updated-ext sweep part status after e h = table-ext _ (length status) after e h
@@ -58,10 +58,10 @@ updated-append sweep k log more status e =
     (length-updated sweep more (updated sweep log status) ∙ length-updated sweep log status)
     (λ a h.
     updated-getD sweep more (updated sweep log status) a (omega (arith, length-updated sweep log status))
-    ∙ rw (updated-getD sweep log status a h, heard-append sweep k log more a e) (younger-assoc _ _ _)))
+    ∙ rw (updated-getD sweep log status a h, tells-append sweep k log more a e) (younger-assoc _ _ _)))
 
 -- the status bytes where nothing is refused
-pub status-after : (n sweep : ℕ) (log status : List ℕ) → logRefusal n log status ≡ 0 → statusAfter n sweep log status ≡ table (heard sweep log) (2 ^ n)
+pub status-after : (n sweep : ℕ) (log status : List ℕ) → logRefusal n log status ≡ 0 → statusAfter n sweep log status ≡ table (tells sweep log) (2 ^ n)
 unfolding statusAfter
 status-after n sweep log status e = kept-none _ _ status e
 
@@ -69,16 +69,16 @@ status-after n sweep log status e = kept-none _ _ status e
 pub from-zeros : (n sweep : ℕ) (log status : List ℕ) → logRefusal n log status ≡ 0 → statusAfter n sweep log status ≡ updated sweep log (replicate (2 ^ n) 0)
 from-zeros n sweep log status e =
     status-after n sweep log status e
-    ∙ updated-ext sweep log (replicate (2 ^ n) 0) (table (heard sweep log) (2 ^ n))
-    (length-table (heard sweep log) (2 ^ n) ∙ sym (length-replicate (2 ^ n) 0))
+    ∙ updated-ext sweep log (replicate (2 ^ n) 0) (table (tells sweep log) (2 ^ n))
+    (length-table (tells sweep log) (2 ^ n) ∙ sym (length-replicate (2 ^ n) 0))
     (λ a h.
     let l : a < 2 ^ n = omega (arith, length-replicate {A = ℕ} (2 ^ n) 0) in
-    getD-table (heard sweep log) (2 ^ n) a l ∙ rw (getD-replicate {A = ℕ} (2 ^ n) a 0 0 l) (sym (none-younger _)))
+    getD-table (tells sweep log) (2 ^ n) a l ∙ rw (getD-replicate {A = ℕ} (2 ^ n) a 0 0 l) (sym (none-younger _)))
 
 -- The bytes where the records before a place have spoken: with the records from there on they say what the whole log says.
-abbrev pub Heard : ℕ → List ℕ → List ℕ → ℕ → List ℕ → Type 0
-Heard sweep log before at status =
-    (a : ℕ) → a < length before → younger (getD status a 0) (heard sweep (drop at log) a) ≡ younger (getD before a 0) (heard sweep log a)
+abbrev pub Told : ℕ → List ℕ → List ℕ → ℕ → List ℕ → Type 0
+Told sweep log before at status =
+    (a : ℕ) → a < length before → younger (getD status a 0) (tells sweep (drop at log) a) ≡ younger (getD before a 0) (tells sweep log a)
 
 -- a record counts at most once
 pub skip-le : (b : Bool) (x : ℕ) → x ≡ one b → x ≤ 1
@@ -100,43 +100,43 @@ module _ (sweep : ℕ) (log : List ℕ) (at x : ℕ) (inside : at + 8 ≤ length
   skipped-next count k total e here =
       omega (arith, skipped-row, ap (skipped sweep) (records-at log at inside) ∙ skipped-cons sweep _ (records (drop (at + 8) log)))
 
-  heard-at : (a : ℕ) → heard sweep (drop at log) a ≡ younger (statusByte (ages sweep a (take (at + 8 - at) (drop at log) ∷ []))) (heard sweep (drop (at + 8) log) a)
-  unfolding heard
-  heard-at a =
+  tells-at : (a : ℕ) → tells sweep (drop at log) a ≡ younger (statusByte (ages sweep a (take (at + 8 - at) (drop at log) ∷ []))) (tells sweep (drop (at + 8) log) a)
+  unfolding tells
+  tells-at a =
       ap (λ (rs : List (List ℕ)). statusByte (ages sweep a rs)) (records-at log at inside)
       ∙ bytes-cons sweep a (take (at + 8 - at) (drop at log)) (records (drop (at + 8) log))
 
-  -- heard
-  pub heard-next :
+  -- told
+  pub tells-next :
       (before status after : List ℕ) →
       length status ≡ length before →
-      Heard sweep log before at status →
+      Told sweep log before at status →
       after
       ≡ set status (nodeIn (take (at + 8 - at) (drop at log)))
       (younger (getD status (nodeIn (take (at + 8 - at) (drop at log))) 0) (cond (leb 32768 x) 0 (ageByte x))) →
-      Heard sweep log before (at + 8) after
-  heard-next before status after long told put =
+      Told sweep log before (at + 8) after
+  tells-next before status after long told put =
       λ a h.
       rw (put, aged, put-getD sweep (take (at + 8 - at) (drop at log)) status a (omega arith))
-      (younger-assoc _ _ _ ∙ ap (younger (getD status a 0)) (sym (heard-at a)) ∙ told a h)
+      (younger-assoc _ _ _ ∙ ap (younger (getD status a 0)) (sym (tells-at a)) ∙ told a h)
 
 -- the end of a log
 pub skipped-end : (sweep : ℕ) (log : List ℕ) (at : ℕ) → length log ≤ at → skipped sweep (records (drop at log)) ≡ 0
 unfolding skipped
 skipped-end sweep log at h = rw (records-none (drop at log) (rw length-drop (omega arith)))
 
-heard-none : (sweep : ℕ) (log : List ℕ) (at a : ℕ) → length log ≤ at → heard sweep (drop at log) a ≡ 0
-unfolding heard
-heard-none sweep log at a h = rw (records-none (drop at log) (rw length-drop (omega arith))) (bytes-none sweep a)
+tells-none : (sweep : ℕ) (log : List ℕ) (at a : ℕ) → length log ≤ at → tells sweep (drop at log) a ≡ 0
+unfolding tells
+tells-none sweep log at a h = rw (records-none (drop at log) (rw length-drop (omega arith))) (bytes-none sweep a)
 
-pub heard-end :
+pub tells-end :
     (sweep : ℕ) (log before : List ℕ) (at : ℕ) (status : List ℕ) →
     length log ≤ at →
     length status ≡ length before →
-    Heard sweep log before at status →
+    Told sweep log before at status →
     status ≡ updated sweep log before
-heard-end sweep log before at status h long told =
-    updated-ext sweep log before status long (λ a l. sym (rw (heard-none sweep log at a h) (younger-none _)) ∙ told a l)
+tells-end sweep log before at status h long told =
+    updated-ext sweep log before status long (λ a l. sym (rw (tells-none sweep log at a h) (younger-none _)) ∙ told a l)
 
 -- what is answered and left behind
 module _ (n sweep : ℕ) (log status : List ℕ) (m : ℕ) (e : m ≡ logRefusal n log status) where

@@ -68,7 +68,7 @@ unfolding ageByte least
 statusByte [] = 0
 statusByte (x ∷ xs) = ageByte (least x xs)
 
--- what a log says of node a
-unfoldable pub heard : ℕ → List ℕ → ℕ → ℕ
+-- what a log tells of node a
+unfoldable pub tells : ℕ → List ℕ → ℕ → ℕ
 unfolding records ages statusByte
-heard sweep log a = statusByte (ages sweep a (records log))
+tells sweep log a = statusByte (ages sweep a (records log))

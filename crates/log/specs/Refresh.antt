@@ -6,7 +6,7 @@ use lib.ListN.{length, getD}
 use Rattle.cube.specs.Reply.{Reply, refused, accepted, refusal, unless, kept}
 use Rattle.cube.specs.Table.{table}
 use Rattle.report.specs.Report.{dimension, sized, within}
-use Rattle.log.specs.Log.{records, nodeIn, wellFormed, skipped, heard}
+use Rattle.log.specs.Log.{records, nodeIn, wellFormed, skipped, tells}
 use Rattle.log.specs.declared.Refreshed.{Refreshed}
 use Rattle.log.specs.declared.Refreshed.the-variants.{Done, Refused}
 
@@ -28,8 +28,8 @@ refreshed n sweep log status = unless (logRefusal n log status) (accepted (skipp
 
 -- the status bytes afterwards
 unfoldable pub statusAfter : ℕ → ℕ → List ℕ → List ℕ → List ℕ
-unfolding logRefusal kept table heard
-statusAfter n sweep log status = kept (logRefusal n log status) (table (heard sweep log) (2 ^ n)) status
+unfolding logRefusal kept table tells
+statusAfter n sweep log status = kept (logRefusal n log status) (table (tells sweep log) (2 ^ n)) status
 
 -- the younger of two status bytes, 0 being none
 unfoldable pub younger : ℕ → ℕ → ℕ
@@ -39,8 +39,8 @@ younger (suc b) (suc c) = min (suc b) (suc c)
 
 -- the status bytes after one more part of a log
 unfoldable pub updated : ℕ → List ℕ → List ℕ → List ℕ
-unfolding table younger heard
-updated sweep part status = table (λ a. younger (getD status a 0) (heard sweep part a)) (length status)
+unfolding table younger tells
+updated sweep part status = table (λ a. younger (getD status a 0) (tells sweep part a)) (length status)
 
 -- Update's status bytes afterwards; it refuses and answers as Refresh does
 unfoldable pub updateAfter : ℕ → ℕ → List ℕ → List ℕ → List ℕ

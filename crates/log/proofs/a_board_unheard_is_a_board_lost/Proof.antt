@@ -12,7 +12,7 @@ use Rattle.cube.proofs.Table.{getD-table, length-table}
 use Rattle.report.specs.Report.{works}
 use Rattle.report.specs.Class.{classOf}
 use Rattle.report.proofs.Report.{works-past}
-use Rattle.log.specs.Log.{records, ages, statusByte, heard}
+use Rattle.log.specs.Log.{records, ages, statusByte, tells}
 use Rattle.log.specs.Claims.{UnheardIsLost}
 use Rattle.log.proofs.Updates.{status-after}
 use Rattle.log.proofs.a_board_unheard_is_a_board_lost.Statement.{statement}
@@ -22,15 +22,15 @@ byte-zero : (status : List ℕ) (a : ℕ) → getD status a 0 ≡ 0 → works st
 unfolding works classOf
 byte-zero status a e = rw e
 
-unheard : (sweep : ℕ) (log : List ℕ) (a : ℕ) → ages sweep a (records log) ≡ [] → heard sweep log a ≡ 0
-unfolding heard statusByte
+unheard : (sweep : ℕ) (log : List ℕ) (a : ℕ) → ages sweep a (records log) ≡ [] → tells sweep log a ≡ 0
+unfolding tells statusByte
 unheard sweep log a none = rw none
 
-lost : (n sweep : ℕ) (log : List ℕ) (a : ℕ) → ages sweep a (records log) ≡ [] → works (table (heard sweep log) (2 ^ n)) a ≡ false
+lost : (n sweep : ℕ) (log : List ℕ) (a : ℕ) → ages sweep a (records log) ≡ [] → works (table (tells sweep log) (2 ^ n)) a ≡ false
 lost n sweep log a none =
     ⊎-elim
-    (λ (h : a < 2 ^ n). byte-zero _ a (getD-table (heard sweep log) (2 ^ n) a h ∙ unheard sweep log a none))
-    (λ (h : 2 ^ n ≤ a). works-past _ a (omega (arith, length-table (heard sweep log) (2 ^ n))))
+    (λ (h : a < 2 ^ n). byte-zero _ a (getD-table (tells sweep log) (2 ^ n) a h ∙ unheard sweep log a none))
+    (λ (h : 2 ^ n ≤ a). works-past _ a (omega (arith, length-table (tells sweep log) (2 ^ n))))
     (lt-or-ge a (2 ^ n))
 
 returns : tie.Need-returns

@@ -10,7 +10,7 @@ use lib.ListN.{length, drop}
 use Rattle.log.specs.Log.{records, skipped}
 use Rattle.log.specs.Sound.{sound}
 use Rattle.log.proofs.Refusals.{sound-at}
-use Rattle.log.proofs.Updates.{Heard, skip-le, skipped-next, skipped-end, heard-next, heard-end}
+use Rattle.log.proofs.Updates.{Told, skip-le, skipped-next, skipped-end, tells-next, tells-end}
 use Rattle.log.proofs.put_all.Statement.{statement}
 use Rattle.log.proofs.put_all.Tie as tie
 
@@ -20,7 +20,7 @@ Inv-loop log sweep status₀ at₀ count₀ status at count =
     × ((count ≤ at)
     × ((sound (length status₀) (records (drop at log)) ≡ true)
     × ((count + skipped sweep (records (drop at log)) ≡ skipped sweep (records log))
-    × ((length status ≡ length status₀) × Heard sweep log status₀ at status))))
+    × ((length status ≡ length status₀) × Told sweep log status₀ at status))))
 
 abbrev μ-loop : tie.MeasureT-loop
 μ-loop log sweep status₀ at₀ count₀ status at count = length log - at
@@ -79,7 +79,7 @@ loop-again c =
             skipped-next (d .sweep) (now (d .log)) (l .at) _ (s .whole) aged _ _ _ (l .inv .1 .1 .1 .0) (c .before .before .before .before .before .skip .ensures),
             (
               search needs,
-              heard-next (d .sweep) (now (d .log)) (l .at) _ (s .whole) aged (now (d .status)) (l .status) _ (l .inv .1 .1 .1 .1 .0) (l .inv .1 .1 .1 .1 .1)
+              tells-next (d .sweep) (now (d .log)) (l .at) _ (s .whole) aged (now (d .status)) (l .status) _ (l .inv .1 .1 .1 .1 .0) (l .inv .1 .1 .1 .1 .1)
                   (c .before .before .put .ensures),
             ),
           ),
@@ -95,7 +95,7 @@ returns c =
     let d = c .before .before .before .before .args in
     let l = c .before .loop in (
       omega (arith, skipped-end (d .sweep) (now (d .log)) (l .at) (omega arith)),
-      heard-end (d .sweep) (now (d .log)) (now (d .status)) (l .at) (l .status) (omega arith) (l .inv .1 .1 .1 .1 .0) (l .inv .1 .1 .1 .1 .1),
+      tells-end (d .sweep) (now (d .log)) (now (d .status)) (l .at) (l .status) (omega arith) (l .inv .1 .1 .1 .1 .0) (l .inv .1 .1 .1 .1 .1),
     )
 
 pub put-all-spec : {M : Type 1} → statement M
