@@ -112,7 +112,7 @@ bytes-cons sweep a r rs = go (usable sweep a r)
     go true = status-byte-cons (age sweep r) (ages sweep a rs)
     go false = sym (none-younger _)
 
--- no record says nothing
+-- where there is no record, nothing is said
 pub bytes-none : (sweep a : ℕ) → statusByte (ages sweep a []) ≡ 0
 unfolding ages statusByte
 bytes-none sweep a = refl
