@@ -29,12 +29,12 @@ pub fn word_at(bytes: &[u8], i: usize) -> u16
     ensures { λ r. ⌜ r ≡ word (now (bytes .entry)) i ⌝ }
 {
     if bytes.len() <= i {
-        return 0;
+        0
+    } else if bytes.len() == i + 1 {
+        bytes[i] as u16
+    } else {
+        word(bytes, i)
     }
-    if bytes.len() == i + 1 {
-        return bytes[i] as u16;
-    }
-    word(bytes, i)
 }
 
 // How many nodes a cube of dimension n has.
