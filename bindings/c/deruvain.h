@@ -167,8 +167,8 @@ struct deruvain_opened deruvain_open(const uint8_t *bytes, size_t bytes_len,
  * (2 bytes) and node number (2 bytes), all little-endian. The sweep given is the present one. A
  * record's age is the present sweep less its own, wrapping past 65535 to 0. A record of age 32768
  * or more is from the future: it is skipped, and counted. Writes all 2^n status bytes: the age of
- * a node's youngest record plus 1, but 253 from the age 252 on; 0 for a node with no other records
- * than skipped ones. In a log that is not refused, the order of the records does not matter.
+ * a node's youngest record plus 1, but 253 from the age 252 on; 0 for a node that has no record
+ * but skipped ones. In a log that is not refused, the order of the records does not matter.
  * Refuses by 1, 2, and then by 11, 12 for each record in the log's order, skipped ones too.
  */
 struct deruvain_refreshed deruvain_refresh(uint32_t n, uint16_t sweep,

@@ -89,7 +89,7 @@ fn classes() {
 }
 
 // All of them.
-pub fn all() {
+pub(crate) fn all() {
     wu();
     classes();
 }

@@ -130,7 +130,7 @@ fn flips(change: u8) {
 }
 
 // All of them.
-pub fn all() {
+pub(crate) fn all() {
     say::number(b"record F: refused ", fate(&RECORD_F) as u64);
     say::say(b"\n");
     say::number(

@@ -83,7 +83,7 @@ fn refusals() {
 }
 
 // All of them.
-pub fn all() {
+pub(crate) fn all() {
     refusals();
     in_f(1, 11);
     in_f(0, 0);

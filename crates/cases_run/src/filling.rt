@@ -46,7 +46,7 @@ fn cabinet_l() {
 }
 
 // All of them.
-pub fn all() {
+pub(crate) fn all() {
     fill(0, 16, 16, 16, 0);
     fill(11, 16, 16, 16, 0);
     fill(4294967295, 16, 16, 16, 0);

@@ -117,7 +117,7 @@ fn refusals() {
 }
 
 // All of them.
-pub fn all() {
+pub(crate) fn all() {
     refusals();
     sized(4, 16, 5, 6, 0, 1, 11);
     sized(4, 16, 17, 17, 0, 1, 12);

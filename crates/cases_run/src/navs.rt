@@ -26,7 +26,7 @@ fn between(s: u16, d: u16) {
 }
 
 // All of them.
-pub fn all() {
+pub(crate) fn all() {
     cross(5, 0);
     cross(5, 1);
     cross(5, 2);

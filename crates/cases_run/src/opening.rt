@@ -84,7 +84,7 @@ fn made(length: u8, kind: u8, high: u8, n: u8, word: u8, top: u8) {
 }
 
 // All of them.
-pub fn all() {
+pub(crate) fn all() {
     cut(0);
     cut(4);
     cut(5);

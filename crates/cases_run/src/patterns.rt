@@ -102,7 +102,7 @@ fn of(n: u32)
 }
 
 // All of them.
-pub fn all() {
+pub(crate) fn all() {
     let mut n: u32 = 1;
     while n <= 10 {
         of(n);

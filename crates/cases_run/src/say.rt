@@ -4,27 +4,27 @@ use routing::Kind;
 use routing::Offer;
 
 // What lent memory holds before a job, so that a change shows.
-pub const LENT: u16 = 99;
+pub(crate) const LENT: u16 = 99;
 
 // Prints a text.
-pub fn say(words: &[u8]) {
+pub(crate) fn say(words: &[u8]) {
     io::write_all(STDOUT_FILENO, words);
 }
 
 // Prints a text and a number.
-pub fn number(words: &[u8], value: u64) {
+pub(crate) fn number(words: &[u8], value: u64) {
     say(words);
     io::print_decimal(STDOUT_FILENO, value);
 }
 
 // Prints a job and its dimension.
-pub fn job(name: &[u8], n: u32) {
+pub(crate) fn job(name: &[u8], n: u32) {
     say(name);
     number(b" n=", n as u64);
 }
 
 // Prints a job, its dimension, and the lengths of status, links and vectors.
-pub fn sized(name: &[u8], n: u32, status: usize, links: usize, vectors: usize) {
+pub(crate) fn sized(name: &[u8], n: u32, status: usize, links: usize, vectors: usize) {
     job(name, n);
     number(b", lengths ", status as u64);
     number(b" ", links as u64);
@@ -32,13 +32,13 @@ pub fn sized(name: &[u8], n: u32, status: usize, links: usize, vectors: usize) {
 }
 
 // Prints source and destination.
-pub fn ends(s: u16, d: u16) {
+pub(crate) fn ends(s: u16, d: u16) {
     number(b", ", s as u64);
     number(b" to ", d as u64);
 }
 
 // Prints a refusal.
-pub fn refused(by: u32) {
+pub(crate) fn refused(by: u32) {
     number(b"refused ", by as u64);
 }
 
@@ -69,7 +69,7 @@ fn untouched(values: &[u16]) -> bool {
 }
 
 // Prints what lent memory holds after a job.
-pub fn lent(name: &[u8], values: &[u16]) {
+pub(crate) fn lent(name: &[u8], values: &[u16]) {
     say(name);
     if untouched(values) {
         say(b" unchanged");
@@ -79,7 +79,7 @@ pub fn lent(name: &[u8], values: &[u16]) {
 }
 
 // The same of 17 words of which a part was lent.
-pub fn partly_lent(name: &[u8], values: &[u16; 17]) {
+pub(crate) fn partly_lent(name: &[u8], values: &[u16; 17]) {
     lent(name, values);
 }
 
@@ -91,7 +91,7 @@ fn offer(kind: &[u8], offered: Offer) {
 }
 
 // Prints how a source is accepted.
-pub fn kind(accepted: Kind) {
+pub(crate) fn kind(accepted: Kind) {
     match accepted {
         Kind::Home => say(b"home"),
         Kind::Assured(offered) => offer(b"assured", offered),

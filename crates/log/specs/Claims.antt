@@ -32,8 +32,7 @@ UnheardIsLost =
     ages sweep a (records log) ≡ [] →
     works (statusAfter n sweep log status) a ≡ false
 
--- A log may be read in parts of whole records: the first refusal, the records skipped and the status bytes come out as from the whole,
--- where the bytes are all 0 before the first part.
+-- A log may be read in parts of whole records: the first refusal, the records skipped and the status bytes come out as from the whole.
 unfoldable pub InParts : Type 0
 InParts =
     (n sweep : ℕ) (log more status : List ℕ) →

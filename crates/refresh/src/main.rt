@@ -7,12 +7,12 @@ use log::Refreshed;
 use log::Sweep;
 use record::Opened;
 
-// How the reading of a log stands.
+// How the reading of a log stands: the first refusal, 0 for none; the records skipped; whether there is more to read; and whether all was read.
 struct Reading {
     refusal: u32,
     skipped: usize,
-    unread: bool,
-    ended: bool,
+    more: bool,
+    whole: bool,
 }
 
 // Prints a line on standard error.
@@ -48,14 +48,14 @@ impl Reading {
             Refreshed::Done(skipped) => Reading {
                 refusal: 0,
                 skipped: both(self.skipped, skipped),
-                unread: false,
-                ended: last,
+                more: !last,
+                whole: last,
             },
             Refreshed::Refused(number) => Reading {
                 refusal: number,
                 skipped: 0,
-                unread: false,
-                ended: true,
+                more: false,
+                whole: false,
             },
         }
     }
@@ -69,8 +69,8 @@ impl Reading {
                 return Reading {
                     refusal: 0,
                     skipped: 0,
-                    unread: true,
-                    ended: true,
+                    more: false,
+                    whole: false,
                 };
             }
         }
@@ -85,12 +85,12 @@ fn read_log(fd: i32, n: u32, sweep: u16, status: &mut [u8]) -> Reading {
     let mut reading = Reading {
         refusal: 0,
         skipped: 0,
-        unread: true,
-        ended: false,
+        more: true,
+        whole: false,
     };
     let mut turns = u64::MAX;
     while turns > 0 {
-        if reading.ended {
+        if !reading.more {
             return reading;
         }
         reading = reading.part(fd, n, sweep, status, room);
@@ -101,12 +101,12 @@ fn read_log(fd: i32, n: u32, sweep: u16, status: &mut [u8]) -> Reading {
 
 // Prints the record with the log's status bytes in place of its own, and how many records were skipped.
 fn print(reading: Reading, bytes: &mut [u8], status: &[u8]) {
-    if reading.unread {
-        say(b"refresh: the log can't be read\n");
-        return;
-    }
     if reading.refusal != 0 {
         refused(reading.refusal);
+        return;
+    }
+    if !reading.whole {
+        say(b"refresh: the log can't be read\n");
         return;
     }
     record::restate(bytes, status);
