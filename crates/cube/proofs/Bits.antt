@@ -1,14 +1,14 @@
 -- The laws of single bits: of an exclusive or, of a remainder, of a power, of a neighbour.
 use mathlib.Core.Path.{_≡_, refl, ap, sym, _∙_}
-use mathlib.Core.Bool.{Bool, true, false, not, xor, false≢true, _&&_}
-use Prim.Native.Nat.{ℕ, zero, suc, min, _+_, _*_, _-_, _/_, _%_, _^_, _≤_, _<_}
+use mathlib.Core.Bool.{Bool, true, false, not, xor, false≢true, _&&_, _||_}
+use Prim.Native.Nat.{ℕ, zero, suc, min, max, _+_, _*_, _-_, _/_, _%_, _^_, _≤_, _<_}
 use native.Mathlib.Nat.{div-eq-of-lt, mod-eq-of-lt, lt-of-lt-of-le, div-self, one-mul, mul-mod-left}
 use native.Mathlib.Omega.{arith}
 use mathlib.Core.Logic.{⊎-elim}
 use borrow.Author.Tests.{le-leb}
 use lib.Dec.{eqb}
 use Rattle.cube.proofs.Order.{lt-or-ge}
-use lib.Bits.{bitXor, bitAnd, differ, and-step, and-shr, xor-step, xor-shr, xor-lt, xor-zero-r}
+use lib.Bits.{bitXor, bitAnd, bitOr, differ, and-step, and-shr, or-step, or-shr, xor-step, xor-shr, xor-lt, xor-zero-r}
 use lib.Pow.{pow-pos, pow-mono, pow-lt, pow-add, field, mod-mod-pow}
 use Rattle.cube.specs.Bits.{bit, place, flip, crossed}
 
@@ -59,6 +59,27 @@ bit-and a b (suc i) =
     ap (λ (x : ℕ). eqb (x % 2) 1) (and-shr a b i)
     ∙ ap (λ (x : ℕ). eqb x 1) (and-digit (a / 2 ^ i) (b / 2 ^ i))
     ∙ min-digit (a / 2 ^ i % 2) (b / 2 ^ i % 2) (omega arith) (omega arith)
+
+-- a digit of a disjunction is 1 where either digit is
+max-digit : (u v : ℕ) → u < 2 → v < 2 → eqb (max u v) 1 ≡ (eqb u 1 || eqb v 1)
+max-digit zero zero hu hv = refl
+max-digit zero (suc zero) hu hv = refl
+max-digit zero (suc (suc v)) hu hv = absurd (omega arith)
+max-digit (suc zero) zero hu hv = refl
+max-digit (suc zero) (suc zero) hu hv = refl
+max-digit (suc zero) (suc (suc v)) hu hv = absurd (omega arith)
+max-digit (suc (suc u)) v hu hv = absurd (omega arith)
+
+or-digit : (a b : ℕ) → bitOr a b % 2 ≡ max (a % 2) (b % 2)
+or-digit a b = omega (arith, or-step a b)
+
+pub bit-or : (a b i : ℕ) → bit (bitOr a b) i ≡ (bit a i || bit b i)
+unfolding bit
+bit-or a b zero = refl
+bit-or a b (suc i) =
+    ap (λ (x : ℕ). eqb (x % 2) 1) (or-shr a b i)
+    ∙ ap (λ (x : ℕ). eqb x 1) (or-digit (a / 2 ^ i) (b / 2 ^ i))
+    ∙ max-digit (a / 2 ^ i % 2) (b / 2 ^ i % 2) (omega arith) (omega arith)
 
 -- the lower bits of a remainder by a power are the number's own
 pub bit-mod : (x n i : ℕ) → i ≤ n → bit (x % 2 ^ n) i ≡ bit x i

@@ -7,7 +7,7 @@ use native.Mathlib.Nat.{mod-eq-of-lt, mod-one, mod-lt, le-trans, le-of-eq, lt-of
 use native.Mathlib.Numerals.{add-one, add-two, add-three, add-four, add-five, one-add}
 use native.Mathlib.Omega.{arith}
 use borrow.Author.Tests.{lt-ltb, eq-eqb, ne-eqb, eqb-false}
-use lib.Bits.{bitXor, bitAnd, and-le-l, xor-lt}
+use lib.Bits.{bitXor, bitAnd, and-le-l, xor-lt, xor-comm}
 use lib.Dec.{eqb, ltb}
 use lib.Count.{ones, ones-cat}
 use lib.Pow.{pow-pos, pow-lt, pow-mono, high, low, mod-pow-add}
@@ -29,7 +29,8 @@ pub one-false : (b : Bool) (x : ℕ) → x ≡ one b → (x ≡ 1 → ⊥) → b
 one-false true x e h = absurd (h e)
 one-false false x e h = refl
 
-one-eqb : (d : ℕ) → d < 2 → one (eqb d 1) ≡ d
+-- a digit by whether it is 1
+pub one-eqb : (d : ℕ) → d < 2 → one (eqb d 1) ≡ d
 one-eqb zero h = refl
 one-eqb (suc zero) h = refl
 one-eqb (suc (suc d)) h = absurd (omega arith)
@@ -40,6 +41,12 @@ one-bit x i l = sym (one-eqb (x / 2 ^ (i - 1) % 2) (omega arith)) ∙ ap one (bi
 
 pub one-bit-next : (x i : ℕ) → x / 2 ^ i % 2 ≡ one (bit x (i + 1))
 one-bit-next x i = ap (λ (j : ℕ). x / 2 ^ j % 2) (let e : i ≡ i + 1 - 1 = omega arith in e) ∙ one-bit x (i + 1) (omega arith)
+
+-- a digit or nothing is at most 1
+pub unless-le : (m x : ℕ) → x ≤ 1 → (1 - m) * x ≤ 1
+unless-le m zero h = omega arith
+unless-le m (suc zero) h = omega arith
+unless-le m (suc (suc x)) h = absurd (omega arith)
 
 -- a bit, but 0 where another is set
 pub one-unless : (m b : Bool) → (1 - one m) * one b ≡ one (not m && b)
@@ -392,6 +399,23 @@ pub xor-cancel : (n a x : ℕ) → a < 2 ^ n → x < 2 ^ n → bitXor a (bitXor 
 xor-cancel n a x ha hx =
     bit-ext (bitXor a (bitXor a x)) x n (xor-lt n a (bitXor a x) ha (xor-lt n a x ha hx)) hx
     (λ j l. bit-xor a (bitXor a x) (suc j) ∙ ap (xor (bit a (suc j))) (bit-xor a x (suc j)) ∙ again (bit a (suc j)) (bit x (suc j)))
+
+self-lt : (x : ℕ) → x < 2 ^ x
+self-lt zero = pow-pos 0
+self-lt (suc x) = omega (arith, self-lt x)
+
+place-lt : (n i : ℕ) → place i < 2 ^ (n + i)
+unfolding place
+place-lt n zero = pow-pos (n + 0)
+place-lt n (suc i) = pow-lt {i = i} {j = n + suc i} (omega arith)
+
+-- crossing a dimension twice goes back
+pub flip-twice : (a i : ℕ) → flip (flip a i) i ≡ a
+unfolding flip
+flip-twice a i =
+    xor-comm (bitXor a (place i)) (place i)
+    ∙ ap (bitXor (place i)) (xor-comm a (place i))
+    ∙ xor-cancel (a + i) (place i) a (place-lt a i) (lt-of-lt-of-le (self-lt a) (pow-mono {i = a} {j = a + i} (omega arith)))
 
 -- a node and its relative address, both with one dimension crossed, name the same destination
 pub xor-crossed : (n a r i : ℕ) → a < 2 ^ n → r < 2 ^ n → i ≤ n → bitXor (flip a i) (flip r i) ≡ bitXor a r

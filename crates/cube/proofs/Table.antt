@@ -1,12 +1,12 @@
 -- The laws of a table: its length and its entries, and of a list whose first places a table takes one by one.
 use mathlib.Core.Path.{_≡_, refl, sym, ap, _∙_}
-use mathlib.Core.List.{List, [], _∷_, _++_}
+use mathlib.Core.List.{List, [], _∷_, _++_, append-nil}
 use Prim.Native.Nat.{ℕ, zero, suc, _+_, _≤_, _<_}
 use native.Mathlib.Nat.{add-zero, zero-add}
 use native.Mathlib.Numerals.{add-one}
 use native.Mathlib.Omega.{arith}
 use lib.ListN.{length, getD, take, drop, set, length-append, length-drop}
-use lib.Seq.{drop-cons, append-snoc, set-at, length-take-le, getD-take, getD-drop, ext-getD}
+use lib.Seq.{drop-cons, drop-length, append-snoc, set-at, length-take-le, getD-take, getD-drop, ext-getD}
 use Rattle.cube.specs.Table.{from, table}
 
 length-from : (f : ℕ → ℕ) (a k : ℕ) → length (from f a k) ≡ k
@@ -68,3 +68,7 @@ pub written-next : (f : ℕ → ℕ) (xs ys : List ℕ) (k v : ℕ) → k < leng
 written-next f xs ys k v h e same =
     rw (e, same, add-one, drop-cons xs k 0 h, table-suc)
     (set-at (table f k) (getD xs k 0) (drop (suc k) xs) (f k) k (length-table f k) ∙ sym (append-snoc (table f k) (f k) (drop (suc k) xs)))
+
+-- after the last store
+pub written-all : (f : ℕ → ℕ) (xs ys : List ℕ) (k : ℕ) → k ≡ length xs → ys ≡ written f xs k → ys ≡ table f (length xs)
+written-all f xs ys k h e = e ∙ rw h (ap (λ (zs : List ℕ). table f (length xs) ++ zs) (drop-length xs) ∙ append-nil _)

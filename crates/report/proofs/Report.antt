@@ -1,6 +1,6 @@
 -- The laws of what a report says of its boards and links.
-use mathlib.Core.Path.{_≡_, refl, ap, sym, _∙_}
-use mathlib.Core.Bool.{true, false, _&&_, and-false, and-eq-true-iff}
+use mathlib.Core.Path.{_≡_, refl, ap, ap₂, sym, _∙_}
+use mathlib.Core.Bool.{true, false, _&&_, _||_, and-false, or-comm, and-eq-true-iff}
 use mathlib.Core.List.{List, [], _∷_}
 use mathlib.Core.Logic.{⊎-elim}
 use Prim.Native.Nat.{ℕ, zero, suc, min, _+_, _^_, _≤_, _<_}
@@ -8,15 +8,17 @@ use native.Mathlib.Nat.{lt-of-lt-of-le}
 use native.Mathlib.Numerals.{add-one}
 use native.Mathlib.Omega.{arith}
 use borrow.Author.Tests.{lt-ltb, le-ltb, leb-true}
+use lib.Bits.{bitOr}
 use lib.Dec.{leb, ltb}
 use lib.Pow.{pow-mono}
 use lib.Seq.{drop-cons}
 use lib.ListN.{length, getD, drop, drop-of-length-le, List·getD-eq-default}
 use Rattle.cube.specs.Bits.{bit, flip}
-use Rattle.cube.proofs.Bits.{bit-zero, bit-high}
+use Rattle.cube.proofs.Bits.{bit-high, bit-or}
+use Rattle.cube.proofs.Count.{flip-twice}
 use Rattle.cube.proofs.Order.{lt-or-ge}
 use Rattle.report.specs.Class.{classOf, isWorking}
-use Rattle.report.specs.Report.{works, cut, narrow, dimension}
+use Rattle.report.specs.Report.{works, cut, SeenFromBothEnds, narrow, dimension}
 
 -- a node past the end is not working
 pub works-past : (status : List ℕ) (a : ℕ) → length status ≤ a → works status a ≡ false
@@ -32,12 +34,18 @@ cut-zero links a (suc i) h = absurd (omega arith)
 -- a word of 16 bits marks no link above dimension 16
 pub cut-wide : (links : List ℕ) (a i : ℕ) → ((b : ℕ) → getD links b 0 < 2 ^ 16) → 16 < i → cut links a i ≡ false
 unfolding cut
-cut-wide links a i h l = bit-high (getD links (min a (flip a i)) 0) 16 i (h (min a (flip a i))) l
+cut-wide links a i h l = ap₂ _||_ (bit-high (getD links a 0) 16 i (h a) l) (bit-high (getD links (flip a i) 0) 16 i (h (flip a i)) l)
 
--- a word past the end marks no link
-pub cut-past : (links : List ℕ) (a i : ℕ) → length links ≤ min a (flip a i) → cut links a i ≡ false
+-- the words of both ends in one
+pub cut-word : (links : List ℕ) (a i : ℕ) → bit (bitOr (getD links a 0) (getD links (flip a i) 0)) i ≡ cut links a i
 unfolding cut
-cut-past links a i h = ap (λ (w : ℕ). bit w i) (List·getD-eq-default links 0 h) ∙ bit-zero i
+cut-word links a i = bit-or (getD links a 0) (getD links (flip a i) 0) i
+
+-- a link is faulty seen from one end exactly when it is seen from the other
+pub cut-other-end : SeenFromBothEnds
+unfolding cut
+cut-other-end links a i =
+    ap (λ (b : ℕ). bit (getD links (flip a i) 0) i || bit (getD links b 0) i) (flip-twice a i) ∙ or-comm (bit (getD links (flip a i) 0) i) (bit (getD links a 0) i)
 
 -- ---- link words
 

@@ -1,6 +1,7 @@
 -- What a report says: which boards work, which links count as faulty, and which reports are acceptable.
-use Prim.Native.Nat.{ℕ, _^_, min}
-use mathlib.Core.Bool.{Bool, true, _&&_}
+use mathlib.Core.Path.{_≡_}
+use Prim.Native.Nat.{ℕ, _^_}
+use mathlib.Core.Bool.{Bool, true, _&&_, _||_}
 use mathlib.Core.List.{List, [], _∷_}
 use lib.Dec.{eqb, leb, ltb}
 use lib.ListN.{length, getD}
@@ -13,10 +14,14 @@ unfoldable pub works : List ℕ → ℕ → Bool
 unfolding classOf
 works status a = isWorking (classOf (getD status a 0))
 
--- the link of a along dimension i counts as faulty: the word of its lower-numbered end marks it
+-- the link of a along dimension i counts as faulty: the word of either end marks it
 unfoldable pub cut : List ℕ → ℕ → ℕ → Bool
 unfolding bit flip
-cut links a i = bit (getD links (min a (flip a i)) 0) i
+cut links a i = bit (getD links a 0) i || bit (getD links (flip a i) 0) i
+
+-- a link is faulty seen from one end exactly when it is seen from the other
+abbrev pub SeenFromBothEnds : Type 0
+SeenFromBothEnds = (links : List ℕ) (a i : ℕ) → cut links (flip a i) i ≡ cut links a i
 
 -- the cube that a report describes
 unfoldable pub cube : ℕ → List ℕ → List ℕ → Cube

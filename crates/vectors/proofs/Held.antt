@@ -1,17 +1,17 @@
 -- What is read off Fill's table is Definition 1.
-use mathlib.Core.Path.{_≡_, refl, ap, ap₂, sym, _∙_}
+use mathlib.Core.Path.{_≡_, refl, ap, sym, _∙_}
 use mathlib.Core.Bool.{true, false}
 use mathlib.Core.List.{List}
-use Prim.Native.Nat.{ℕ, zero, suc, min, _+_, _-_, _*_, _/_, _%_, _^_, _≤_, _<_}
+use Prim.Native.Nat.{ℕ, zero, suc, _+_, _*_, _/_, _%_, _^_, _≤_, _<_}
 use native.Mathlib.Numerals.{add-one, one-add}
 use native.Mathlib.Omega.{arith}
 use borrow.Author.Tests.{le-leb, eq-eqb, lt-ltb}
 use lib.Pow.{shr-shr}
 use lib.ListN.{length, getD, List·getD-eq-default}
-use Rattle.cube.specs.Bits.{bit, flip}
+use Rattle.cube.specs.Bits.{bit}
 use Rattle.report.specs.Report.{cut}
 use Rattle.cube.specs.Count.{one, pack}
-use Rattle.cube.proofs.Count.{one-bit-next, one-unless}
+use Rattle.cube.proofs.Count.{one-bit-next}
 use Rattle.cube.proofs.Bits.{bit-zero, bit-high}
 use Rattle.report.specs.Health.{Cube}
 use Rattle.vectors.specs.Safety.{registered, safe, vectors}
@@ -57,10 +57,3 @@ held-digit w (suc k) =
     ap (λ (x : ℕ). x % 2)
     (ap (λ (j : ℕ). (w * 2 + 1) / 2 ^ j) (sym (one-add k)) ∙ sym (shr-shr (w * 2 + 1) 1 k) ∙ ap (λ (x : ℕ). x / 2 ^ k) (let e : (w * 2 + 1) / 2 ^ 1 ≡ w = omega arith in e))
     ∙ (rw add-one at (one-bit-next w k))
-
--- a registered bit as the machine makes it
-pub registered-digit : (links vectors : List ℕ) (k a i m h : ℕ) → m ≡ one (bit (getD links (min a (flip a i)) 0) i) → h ≡ one (held (getD vectors (flip a i) 0) k)
-    → (1 - m) * h ≡ one (registered (cut links) (own vectors k) a i)
-unfolding registered cut own
-registered-digit links vectors k a i m h em eh =
-    ap₂ (λ (x y : ℕ). (1 - x) * y) em eh ∙ one-unless (bit (getD links (min a (flip a i)) 0) i) (held (getD vectors (flip a i) 0) k)

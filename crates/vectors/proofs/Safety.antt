@@ -1,17 +1,24 @@
 -- The laws of Wu's Definition 1: one recurrence gives every bit, and what the table of vectors holds.
-use mathlib.Core.Path.{_≡_, refl, ap, sym, _∙_}
+use mathlib.Core.Path.{_≡_, refl, ap, ap₂, sym, _∙_}
 use mathlib.Core.Bool.{Bool, true, false, not, _&&_, and-true, false≢true}
-use Prim.Native.Nat.{ℕ, zero, suc, _+_, _-_, _^_, _≤_, _<_}
+use Prim.Native.Nat.{ℕ, zero, suc, _+_, _-_, _*_, _^_, _≤_, _<_}
 use native.Mathlib.Omega.{arith}
 use borrow.Author.Tests.{lt-ltb, le-ltb, le-leb, lt-leb, leb-false, not-true}
 use lib.Dec.{leb, ltb}
 use lib.ListN.{getD}
 use Rattle.cube.specs.Bits.{bit, flip, weight}
-use Rattle.cube.specs.Count.{count, any}
-use Rattle.cube.proofs.Count.{any-count, count-cong, count-not, bit-pack, both, weight-below}
+use Rattle.cube.specs.Count.{one, count, any}
+use Rattle.cube.proofs.Bits.{flip-lt}
+use Rattle.cube.proofs.Count.{one-unless, any-count, count-cong, count-not, bit-pack, both, weight-below}
 use Rattle.cube.proofs.Table.{getD-table}
 use Rattle.report.specs.Health.{Cube}
 use Rattle.vectors.specs.Safety.{registered, supported, safe, bitsOf, vector, vectors}
+
+-- a registered bit as the machine makes it
+pub registered-digit : (cut : ℕ → ℕ → Bool) (bits : ℕ → Bool) (a i m h : ℕ) → m ≡ one (cut a i) → h ≡ one (bits (flip a i))
+    → (1 - m) * h ≡ one (registered cut bits a i)
+unfolding registered
+registered-digit cut bits a i m h em eh = ap₂ (λ (x y : ℕ). (1 - x) * y) em eh ∙ one-unless (cut a i) (bits (flip a i))
 
 -- with no link faulty all n are registered at bit 0, and else at most n−1
 sound-links : (cut : ℕ → Bool) (n : ℕ) → 0 < n → any cut n ≡ leb (count (λ i. not (cut i) && true) n) (n - 1)
@@ -43,6 +50,20 @@ unfolding supported registered
 supported-cong C p q k a h =
     ap (λ (x : ℕ). not (leb x (C .dim - k)))
     (count-cong (registered (C .cut) p a) (registered (C .cut) q a) (C .dim) (λ i l. ap (λ (b : Bool). not (C .cut a (suc i)) && b) (h i l)))
+
+-- cubes whose links agree have the same bits
+pub safe-cong : (n : ℕ) (w : ℕ → Bool) (f g : ℕ → ℕ → Bool) → 0 < n → ((a i : ℕ) → a < 2 ^ n → i < n → f a (suc i) ≡ g a (suc i))
+    → (k a : ℕ) → a < 2 ^ n → safe (record { dim = n; works = w; cut = f }) k a ≡ safe (record { dim = n; works = w; cut = g }) k a
+unfolding safe supported registered
+safe-cong n w f g h same zero a l = refl
+safe-cong n w f g h same (suc k) a l =
+    let F : Cube = record { dim = n; works = w; cut = f } in
+    let G : Cube = record { dim = n; works = w; cut = g } in
+    recurrence F k a h
+    ∙ ap (λ (x : ℕ). w a && not (leb x (n - suc k)))
+    (count-cong (registered f (safe F k) a) (registered g (safe G k) a) n
+    (λ i m. ap₂ (λ (c b : Bool). not c && b) (same a i l m) (safe-cong n w f g h same k (flip a (suc i)) (flip-lt n a (suc i) l m))))
+    ∙ sym (recurrence G k a h)
 
 -- at most n−k neighbours registered with the bit are too few
 pub too-few : (C : Cube) (bits : ℕ → Bool) (k a : ℕ) → count (registered (C .cut) bits a) (C .dim) ≤ C .dim - k → supported C bits k a ≡ false

@@ -1,16 +1,17 @@
 // Wu's safety vectors: what the boards hold, and Fill.
 use cube::Node;
 ghost use mathlib.Core.Path.{_≡_};
-ghost use Prim.Native.Nat.{suc, min, _+_, _^_, _≤_, _<_};
+ghost use Prim.Native.Nat.{suc, _+_, _^_, _≤_, _<_};
 ghost use mathlib.Core.Bool.{_&&_};
 ghost use lib.ListN.{length, replicate};
 ghost use Rattle.cube.specs.Bits.{bit, flip};
 ghost use Rattle.cube.specs.Count.{one, pack, count};
 ghost use Rattle.cube.specs.Reply.{numberOf, OneAnswer};
+ghost use Rattle.cube.specs.Table.{table};
 ghost use Rattle.report.specs.Report.{works, cut, cube};
 ghost use Rattle.vectors.specs.Safety.{registered, supported};
 ghost use Rattle.vectors.specs.Held.{held, own, heard};
-ghost use Rattle.vectors.specs.Rounds.{after};
+ghost use Rattle.vectors.specs.Rounds.{after, digit, shown, Digits, faults, allFaults, masked, known};
 ghost use Rattle.vectors.specs.Fill.{fillRefusal, fill, filled, said};
 
 // What Fill answers.
@@ -57,17 +58,11 @@ fn across(a: usize, i: u32) -> usize
     a ^ (1 << i)
 }
 
-// The lower-numbered of two nodes.
-fn lower(a: usize, b: usize) -> usize
-    ensures { λ r. ⌜ r ≡ min a b ⌝ }
-{
-    if a < b { a } else { b }
-}
-
 // Whether a word has the bit of dimension i + 1: 1 or 0.
 fn marked(word: u16, i: u32) -> u32
     requires { ⌜ i < 16 ⌝ }
-    ensures { λ r. ⌜ r ≡ one (bit word (suc i)) ⌝ }
+    ensures digit { λ r. ⌜ r ≡ one (bit word (suc i)) ⌝ }
+    ensures small { λ r. ⌜ r ≤ 1 ⌝ }
 {
     (word >> i) as u32 % 2
 }
@@ -75,21 +70,21 @@ fn marked(word: u16, i: u32) -> u32
 // Bit k of a vector, as 1 or 0; bit 0, which is 1, is put below the others.
 fn bit_of(word: u16, k: u32) -> u32
     requires { ⌜ k ≤ 16 ⌝ }
-    ensures { λ r. ⌜ r ≡ one (held word k) ⌝ }
+    ensures digit { λ r. ⌜ r ≡ one (held word k) ⌝ }
+    ensures small { λ r. ⌜ r ≤ 1 ⌝ }
 {
     ((word as u32 * 2 + 1) >> k) % 2
 }
 
 // Bit k of a's neighbour along dimension i + 1, as registered at a, as 1 or 0.
 fn registered(links: &[u16], vectors: &[u16], a: usize, i: u32, k: u32) -> u32
-    requires { ⌜ (i < 16) × (k ≤ 16) × (a < length (now links)) × (flip a (suc i) < length (now vectors)) ⌝ }
+    requires { ⌜ (i < 16) × (k ≤ 16) × (a < 1024) × (flip a (suc i) < length (now vectors)) ⌝ }
     ensures digit { λ r. ⌜ r ≡ one (registered (cut (now (links .entry))) (own (now (vectors .entry)) k) a (suc i)) ⌝ }
     ensures small { λ r. ⌜ r ≤ 1 ⌝ }
 {
     let b = across(a, i);
-    let end = lower(a, b);
-    let word = links[end];
-    (1 - marked(word, i)) * bit_of(vectors[b], k)
+    let fault = report::faulty(links, Node(a as u16), i + 1);
+    (1 - fault) * bit_of(vectors[b], k)
 }
 
 // The mask of the dimensions 1 to n along which bit k is registered at a.
@@ -129,73 +124,148 @@ pub fn heard(n: u32, links: &[u16], vectors: &[u16], a: Node, k: u32) -> u16
     registered_mask(n, links, vectors, a.0 as usize, k)
 }
 
-// How many of a's neighbours along dimensions 1 to n are registered with bit k.
-fn support(n: u32, links: &[u16], vectors: &[u16], a: usize, k: u32) -> u32
-    requires { ⌜ (n ≤ 10) × (k ≤ 10) × (a < 2 ^ n) × (length (now links) ≡ 2 ^ n) × (length (now vectors) ≡ 2 ^ n) ⌝ }
-    ensures { λ r. ⌜ r ≡ count (registered (cut (now (links .entry))) (own (now (vectors .entry)) k) a) n ⌝ }
+// The faulty links of node a along dimensions 1 to n, as a mask.
+fn faults(n: u32, links: &[u16], a: usize) -> u16
+    requires { ⌜ (n ≤ 10) × (a < 1024) ⌝ }
+    ensures { λ r. ⌜ r ≡ faults n (now (links .entry)) a ⌝ }
+{
+    let mut mask: u16 = 0;
+    let mut i: u32 = 0;
+    while i < n {
+        let bit = report::faulty(links, Node(a as u16), i + 1) as u16;
+        mask = mask + (bit << i);
+        i += 1;
+    }
+    mask
+}
+
+// The faulty links of every node.
+fn all_faults(n: u32, links: &[u16], masks: &mut [u16])
+    requires { ⌜ (n ≤ 10) × (length (now masks) ≡ 2 ^ n) ⌝ }
+    ensures { λ r. ⌜ now (masks .exit) ≡ allFaults n (now (links .entry)) ⌝ }
+{
+    let mut a: usize = 0;
+    while a < masks.len() {
+        masks[a] = faults(n, links, a);
+        a += 1;
+    }
+}
+
+// Bit k of every vector, as a byte for each node.
+fn show(vectors: &[u16], bytes: &mut [u8], k: u32)
+    requires { ⌜ (k ≤ 16) × (length (now bytes) ≡ length (now vectors)) ⌝ }
+    ensures { λ r. ⌜ now (bytes .exit) ≡ table (digit (now (vectors .entry)) k) (length (now (vectors .entry))) ⌝ }
+{
+    let mut a: usize = 0;
+    while a < bytes.len() {
+        bytes[a] = bit_of(vectors[a], k) as u8;
+        a += 1;
+    }
+}
+
+// What the byte of a's neighbour along dimension i + 1 shows, as 1 or 0.
+fn shown(bytes: &[u8], a: usize, i: u32) -> u32
+    requires { ⌜ (i < 16) × (flip a (suc i) < length (now bytes)) × Digits (now bytes) ⌝ }
+    ensures digit { λ r. ⌜ r ≡ one (registered (masked 0) (shown (now (bytes .entry))) a (suc i)) ⌝ }
+    ensures small { λ r. ⌜ r ≤ 1 ⌝ }
+{
+    let b = across(a, i);
+    bytes[b] as u32
+}
+
+// The same as registered at a, whose faulty links are those of the mask.
+fn shown_past(mask: u16, bytes: &[u8], a: usize, i: u32) -> u32
+    requires { ⌜ (i < 16) × (flip a (suc i) < length (now bytes)) × Digits (now bytes) ⌝ }
+    ensures digit { λ r. ⌜ r ≡ one (registered (masked mask) (shown (now (bytes .entry))) a (suc i)) ⌝ }
+    ensures small { λ r. ⌜ r ≤ 1 ⌝ }
+{
+    (1 - marked(mask, i)) * shown(bytes, a, i)
+}
+
+// How many of a's neighbours along dimensions 1 to n are registered with the bit shown, by a's faulty links.
+fn sum_sound(n: u32, mask: u16, bytes: &[u8], a: usize) -> u32
+    requires { ⌜ (n ≤ 10) × (a < 2 ^ n) × (length (now bytes) ≡ 2 ^ n) × Digits (now bytes) ⌝ }
+    ensures { λ r. ⌜ r ≡ count (registered (masked mask) (shown (now (bytes .entry))) a) n ⌝ }
 {
     let mut sum: u32 = 0;
     let mut i: u32 = 0;
     while i < n {
-        sum += registered(links, vectors, a, i, k);
+        sum += shown_past(mask, bytes, a, i);
         i += 1;
     }
     sum
 }
 
-// How many are registered with bit k along the five dimensions from i + 1 on, in the largest cabinet.
-fn five(links: &[u16], vectors: &[u16], a: usize, i: u32, k: u32) -> u32
-    requires { ⌜ (i ≤ 5) × (k ≤ 10) × (a < 1024) × (length (now links) ≡ 1024) × (length (now vectors) ≡ 1024) ⌝ }
-    ensures { λ r. ⌜ count (registered (cut (now (links .entry))) (own (now (vectors .entry)) k) a) i + r ≡ count (registered (cut (now (links .entry))) (own (now (vectors .entry)) k) a) (i + 5) ⌝ }
+// The same where no link of a is faulty.
+fn sum(n: u32, bytes: &[u8], a: usize) -> u32
+    requires { ⌜ (n ≤ 10) × (a < 2 ^ n) × (length (now bytes) ≡ 2 ^ n) × Digits (now bytes) ⌝ }
+    ensures { λ r. ⌜ r ≡ count (registered (masked 0) (shown (now (bytes .entry))) a) n ⌝ }
 {
-    let one = registered(links, vectors, a, i, k);
-    let two = one + registered(links, vectors, a, i + 1, k);
-    let three = two + registered(links, vectors, a, i + 2, k);
-    let four = three + registered(links, vectors, a, i + 3, k);
-    four + registered(links, vectors, a, i + 4, k)
+    let mut sum: u32 = 0;
+    let mut i: u32 = 0;
+    while i < n {
+        sum += shown(bytes, a, i);
+        i += 1;
+    }
+    sum
+}
+
+// The same along the five dimensions from i + 1 on, in the largest cabinet.
+fn five(bytes: &[u8], a: usize, i: u32) -> u32
+    requires { ⌜ (i ≤ 5) × (a < 1024) × (length (now bytes) ≡ 1024) × Digits (now bytes) ⌝ }
+    ensures { λ r. ⌜ count (registered (masked 0) (shown (now (bytes .entry))) a) i + r ≡ count (registered (masked 0) (shown (now (bytes .entry))) a) (i + 5) ⌝ }
+{
+    let one = shown(bytes, a, i);
+    let two = one + shown(bytes, a, i + 1);
+    let three = two + shown(bytes, a, i + 2);
+    let four = three + shown(bytes, a, i + 3);
+    four + shown(bytes, a, i + 4)
 }
 
 // The same along all ten dimensions of the largest cabinet, written out.
-fn ten(links: &[u16], vectors: &[u16], a: usize, k: u32) -> u32
-    requires { ⌜ (k ≤ 10) × (a < 1024) × (length (now links) ≡ 1024) × (length (now vectors) ≡ 1024) ⌝ }
-    ensures { λ r. ⌜ r ≡ count (registered (cut (now (links .entry))) (own (now (vectors .entry)) k) a) 10 ⌝ }
+fn ten(bytes: &[u8], a: usize) -> u32
+    requires { ⌜ (a < 1024) × (length (now bytes) ≡ 1024) × Digits (now bytes) ⌝ }
+    ensures { λ r. ⌜ r ≡ count (registered (masked 0) (shown (now (bytes .entry))) a) 10 ⌝ }
 {
-    five(links, vectors, a, 0, k) + five(links, vectors, a, 5, k)
+    five(bytes, a, 0) + five(bytes, a, 5)
 }
 
-// How many of a's neighbours are registered with bit k: written out in the largest cabinet, by the loop in any other.
-fn heard_by(n: u32, links: &[u16], vectors: &[u16], a: usize, k: u32) -> u32
-    requires { ⌜ (n ≤ 10) × (k ≤ 10) × (a < 2 ^ n) × (length (now links) ≡ 2 ^ n) × (length (now vectors) ≡ 2 ^ n) ⌝ }
-    ensures { λ r. ⌜ r ≡ count (registered (cut (now (links .entry))) (own (now (vectors .entry)) k) a) n ⌝ }
+// How many of a's neighbours are registered with the bit shown. Most nodes have no faulty link.
+fn heard_by(n: u32, mask: u16, bytes: &[u8], a: usize) -> u32
+    requires { ⌜ (n ≤ 10) × (a < 2 ^ n) × (length (now bytes) ≡ 2 ^ n) × Digits (now bytes) ⌝ }
+    ensures { λ r. ⌜ r ≡ count (registered (masked mask) (shown (now (bytes .entry))) a) n ⌝ }
 {
-    if n == 10 {
-        return ten(links, vectors, a, k);
+    if mask != 0 {
+        return sum_sound(n, mask, bytes, a);
     }
-    support(n, links, vectors, a, k)
+    if n == 10 {
+        return ten(bytes, a);
+    }
+    sum(n, bytes, a)
 }
 
-// Bit k + 1 of node a by the bits k that the boards hold, as 1 or 0.
-fn next_bit(n: u32, status: &[u8], links: &[u16], vectors: &[u16], a: usize, k: u32) -> u16
-    requires { ⌜ (n ≤ 10) × (k < n) × (a < 2 ^ n) × (length (now links) ≡ 2 ^ n) × (length (now vectors) ≡ 2 ^ n) ⌝ }
-    ensures { λ r. ⌜ r ≡ one (works (now (status .entry)) a && supported (cube n (now (status .entry)) (now (links .entry))) (own (now (vectors .entry)) k) (suc k) a) ⌝ }
+// Bit k + 1 of node a by the bits k shown, as 1 or 0.
+fn next_bit(n: u32, status: &[u8], masks: &[u16], bytes: &[u8], a: usize, k: u32) -> u16
+    requires { ⌜ (n ≤ 10) × (k < n) × (a < 2 ^ n) × (length (now masks) ≡ 2 ^ n) × (length (now bytes) ≡ 2 ^ n) × Digits (now bytes) ⌝ }
+    ensures { λ r. ⌜ r ≡ one (works (now (status .entry)) a && supported (known n (now (status .entry)) (now (masks .entry))) (shown (now (bytes .entry))) (suc k) a) ⌝ }
 {
     let number = a as u16;
     if report::works(status, Node(number)) {
-        let sum = heard_by(n, links, vectors, a, k);
+        let sum = heard_by(n, masks[a], bytes, a);
         if sum <= n - (k + 1) { 0 } else { 1 }
     } else {
         0
     }
 }
 
-// Round k: bit k + 1 of every vector, by the bits k.
-fn round(n: u32, status: &[u8], links: &[u16], vectors: &mut [u16], k: u32)
-    requires { ⌜ (n ≤ 10) × (k < n) × (length (now links) ≡ 2 ^ n) × (now vectors ≡ after (cube n (now status) (now links)) k) ⌝ }
-    ensures { λ r. ⌜ now (vectors .exit) ≡ after (cube n (now (status .entry)) (now (links .entry))) (suc k) ⌝ }
+// Round k: bit k + 1 of every vector, by the bits k shown.
+fn round(n: u32, status: &[u8], masks: &[u16], bytes: &[u8], vectors: &mut [u16], k: u32)
+    requires { ⌜ (n ≤ 10) × (k < n) × (length (now masks) ≡ 2 ^ n) × (now vectors ≡ after (known n (now status) (now masks)) k) × (now bytes ≡ table (digit (now vectors) k) (2 ^ n)) ⌝ }
+    ensures { λ r. ⌜ now (vectors .exit) ≡ after (known n (now (status .entry)) (now (masks .entry))) (suc k) ⌝ }
 {
     let mut a: usize = 0;
     while a < vectors.len() {
-        let bit = next_bit(n, status, links, vectors, a, k);
+        let bit = next_bit(n, status, masks, bytes, a, k);
         vectors[a] = vectors[a] + (bit << k);
         a += 1;
     }
@@ -213,15 +283,94 @@ fn clear(vectors: &mut [u16])
 }
 
 // The rounds, one for each bit.
-fn all_rounds(n: u32, status: &[u8], links: &[u16], vectors: &mut [u16])
-    requires { ⌜ (n ≤ 10) × (length (now links) ≡ 2 ^ n) × (length (now vectors) ≡ 2 ^ n) ⌝ }
-    ensures { λ r. ⌜ now (vectors .exit) ≡ after (cube n (now (status .entry)) (now (links .entry))) n ⌝ }
+fn all_rounds(n: u32, status: &[u8], masks: &[u16], bytes: &mut [u8], vectors: &mut [u16])
+    requires { ⌜ (n ≤ 10) × (length (now masks) ≡ 2 ^ n) × (length (now bytes) ≡ 2 ^ n) × (length (now vectors) ≡ 2 ^ n) ⌝ }
+    ensures { λ r. ⌜ now (vectors .exit) ≡ after (known n (now (status .entry)) (now (masks .entry))) n ⌝ }
 {
     clear(vectors);
     let mut k: u32 = 0;
     while k < n {
-        round(n, status, links, vectors, k);
+        show(vectors, bytes, k);
+        round(n, status, masks, bytes, vectors, k);
         k += 1;
+    }
+}
+
+// The link words read once, then the rounds.
+fn by_rounds(
+    n: u32,
+    status: &[u8],
+    links: &[u16],
+    masks: &mut [u16],
+    bytes: &mut [u8],
+    vectors: &mut [u16],
+)
+    requires { ⌜ (n ≤ 10) × (length (now masks) ≡ 2 ^ n) × (length (now bytes) ≡ 2 ^ n) × (length (now vectors) ≡ 2 ^ n) ⌝ }
+    ensures { λ r. ⌜ now (vectors .exit) ≡ after (cube n (now (status .entry)) (now (links .entry))) n ⌝ }
+{
+    all_faults(n, links, masks);
+    all_rounds(n, status, masks, bytes, vectors);
+}
+
+// Room for the masks of 1,024 boards.
+fn room_for_masks() -> [u16; 1024]
+    ensures { λ r. ⌜ 1024 ≡ length r ⌝ }
+{
+    [0; 1024]
+}
+
+// Room for the bytes of 1,024 boards.
+fn room_for_bytes() -> [u8; 1024]
+    ensures { λ r. ⌜ 1024 ≡ length r ⌝ }
+{
+    [0; 1024]
+}
+
+// With room for 32 boards.
+fn in_few(n: u32, status: &[u8], links: &[u16], vectors: &mut [u16])
+    requires { ⌜ (n ≤ 5) × (length (now vectors) ≡ 2 ^ n) ⌝ }
+    ensures { λ r. ⌜ now (vectors .exit) ≡ after (cube n (now (status .entry)) (now (links .entry))) n ⌝ }
+{
+    let nodes: usize = 1 << n;
+    let mut masks = [0u16; 32];
+    let mut bytes = [0u8; 32];
+    by_rounds(
+        n,
+        status,
+        links,
+        &mut masks[0..nodes],
+        &mut bytes[0..nodes],
+        vectors,
+    );
+}
+
+// With room for 1,024 boards.
+fn in_many(n: u32, status: &[u8], links: &[u16], vectors: &mut [u16])
+    requires { ⌜ (n ≤ 10) × (length (now vectors) ≡ 2 ^ n) ⌝ }
+    ensures { λ r. ⌜ now (vectors .exit) ≡ after (cube n (now (status .entry)) (now (links .entry))) n ⌝ }
+{
+    let nodes: usize = 1 << n;
+    let mut masks = room_for_masks();
+    let mut bytes = room_for_bytes();
+    by_rounds(
+        n,
+        status,
+        links,
+        &mut masks[0..nodes],
+        &mut bytes[0..nodes],
+        vectors,
+    );
+}
+
+// All the vectors, in as much room as they take.
+fn write_vectors(n: u32, status: &[u8], links: &[u16], vectors: &mut [u16])
+    requires { ⌜ (n ≤ 10) × (length (now vectors) ≡ 2 ^ n) ⌝ }
+    ensures { λ r. ⌜ now (vectors .exit) ≡ after (cube n (now (status .entry)) (now (links .entry))) n ⌝ }
+{
+    if n <= 5 {
+        in_few(n, status, links, vectors);
+    } else {
+        in_many(n, status, links, vectors);
     }
 }
 
@@ -250,7 +399,7 @@ pub fn fill(n: u32, status: &[u8], links: &[u16], vectors: &mut [u16]) -> Filled
     if number != 0 {
         return Filled::Refused(number);
     }
-    all_rounds(n, status, links, vectors);
+    write_vectors(n, status, links, vectors);
     Filled::Done
 }
 

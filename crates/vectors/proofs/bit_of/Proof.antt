@@ -1,4 +1,5 @@
 -- `vectors::bit_of` meets its contract.
+use native.Mathlib.Omega.{arith}
 use borrow.Author.Needs.{needs}
 use Rattle.vectors.proofs.Held.{held-digit}
 use Rattle.vectors.proofs.bit_of.Statement.{statement}
@@ -14,7 +15,7 @@ shr-result : tie.Need-shr-result
 shr-result c = search needs
 
 returns : tie.Need-returns
-returns c = held-digit (c .args .word) (c .args .k)
+returns c = (held-digit (c .args .word) (c .args .k), omega arith)
 
 pub bit-of-spec : {M : Type 1} → statement M
 bit-of-spec = tie.close (tie.spec mul-result add-result shr-result returns)

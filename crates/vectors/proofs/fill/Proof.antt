@@ -25,8 +25,8 @@ returns c =
     let nz : fillRefusal (a .n) (now (a .status)) (now (a .links)) (now (a .vectors)) ≡ 0 → ⊥ = λ z. c .if1 .taken (e ∙ z) in
     (ap refused e ∙ sym (unless-some (fillRefusal (a .n) (now (a .status)) (now (a .links)) (now (a .vectors))) _ nz), sym (kept-some (fillRefusal (a .n) (now (a .status)) (now (a .links)) (now (a .vectors))) _ _ nz))
 
-all-rounds-requires : tie.Need-all-rounds-requires
-all-rounds-requires c κs =
+write-vectors-requires : tie.Need-write-vectors-requires
+write-vectors-requires c κs =
     let a = c .before .before .before .before .before .before .before .args in
     accepted-size (a .n) (now (a .status)) (now (a .links)) (now (a .vectors)) (sym (c .before .before .fill-refusal .ensures) ∙ c .before .if1 .left)
 
@@ -39,7 +39,7 @@ returns-2 c =
     let a = c .before .before .before .before .before .before .before .before .before .before .args in
     let z = sym (c .before .before .before .before .before .fill-refusal .ensures) ∙ c .before .before .before .before .if1 .left in (
       sym (unless-none (fillRefusal (a .n) (now (a .status)) (now (a .links)) (now (a .vectors))) _ z),
-      c .before .before .all-rounds .ensures ∙ after-all (cube (a .n) (now (a .status)) (now (a .links))) ∙ sym (kept-none (fillRefusal (a .n) (now (a .status)) (now (a .links)) (now (a .vectors))) _ _ z),
+      c .before .before .write-vectors .ensures ∙ after-all (cube (a .n) (now (a .status)) (now (a .links))) ∙ sym (kept-none (fillRefusal (a .n) (now (a .status)) (now (a .links)) (now (a .vectors))) _ _ z),
     )
 
 pub fill-spec : {M : Type 1} → statement M
@@ -49,6 +49,6 @@ fill-spec =
     fill-refusal-requires
     same-length
     returns
-    all-rounds-requires
+    write-vectors-requires
     same-length-2
     returns-2)

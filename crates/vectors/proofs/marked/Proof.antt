@@ -18,7 +18,7 @@ cast-result-2 : tie.Need-cast-result-2
 cast-result-2 c = record { fits = lt-of-le-of-lt (shr-le _ _) (omega arith) }
 
 returns : tie.Need-returns
-returns c = rw add-one at (one-bit-next (c .args .word) (c .args .i))
+returns c = (rw add-one at (one-bit-next (c .args .word) (c .args .i)), omega arith)
 
 pub marked-spec : {M : Type 1} → statement M
 marked-spec = tie.close (tie.spec cast-result shr-result cast-result-2 returns)

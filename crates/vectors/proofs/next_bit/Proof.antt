@@ -1,15 +1,16 @@
 -- `vectors::next_bit` meets its contract: its tests are those of the recurrence.
-use mathlib.Core.Path.{ap, ap₂, sym, _∙_}
-use mathlib.Core.Bool.{Bool, _&&_}
-use Prim.Native.Nat.{suc}
+use mathlib.Core.Path.{_≡_, refl, ap, ap₂, sym, _∙_}
+use mathlib.Core.Bool.{Bool}
+use Prim.Native.Nat.{ℕ, suc, _+_, _-_, _*_, _%_, _^_, _≤_, _<_}
+use native.Mathlib.Nat.{le-trans, le-of-eq, lt-of-lt-of-le}
 use native.Mathlib.Omega.{arith}
 use borrow.Author.Needs.{needs}
-use lib.Pow.{pow-mono}
 use denote.Ref.{now}
+use mathlib.Core.Bool.{_&&_}
+use lib.Pow.{pow-mono}
 use Rattle.cube.specs.Count.{one}
-use Rattle.report.specs.Report.{cube}
-use Rattle.vectors.specs.Safety.{supported}
-use Rattle.vectors.specs.Held.{own}
+use Rattle.vectors.specs.Safety.{registered, supported}
+use Rattle.vectors.specs.Rounds.{shown, known}
 use Rattle.vectors.proofs.Safety.{too-few, enough}
 use Rattle.vectors.proofs.next_bit.Statement.{statement}
 use Rattle.vectors.proofs.next_bit.Tie as tie
@@ -22,6 +23,12 @@ cast-number c =
 works-requires : tie.Need-works-requires
 works-requires c κs = search needs
 
+mul-heard-by : tie.Need-mul-heard-by
+mul-heard-by c = search needs
+
+shared-slice-read-heard-by : tie.Need-shared-slice-read-heard-by
+shared-slice-read-heard-by c = search needs
+
 heard-by-requires : tie.Need-heard-by-requires
 heard-by-requires c κs = search needs
 
@@ -32,28 +39,28 @@ sub-if2 : tie.Need-sub-if2
 sub-if2 c = search needs
 
 returns : tie.Need-returns
-unfolding cube
+unfolding known registered
 returns c =
-    let a = c .before .before .before .before .before .before .before .args in
+    let a = c .before .before .before .before .before .before .before .before .args in
     sym
     (ap one
-    (ap₂ _&&_ (sym (c .before .before .before .works .ensures) ∙ c .before .before .if1 .taken)
-    (too-few (cube (a .n) (now (a .status)) (now (a .links))) (own (now (a .vectors)) (a .k)) (suc (a .k)) (a .a) (omega (arith, c .before .heard-by .ensures, c .if2 .taken)))))
+    (ap₂ _&&_ (sym (c .before .before .before .before .works .ensures) ∙ c .before .before .before .if1 .taken)
+    (too-few (known (a .n) (now (a .status)) (now (a .masks))) (shown (now (a .bytes))) (suc (a .k)) (a .a) (le-trans (le-of-eq (sym (c .before .heard-by .ensures))) (omega (arith, c .if2 .taken))))))
 
 returns-2 : tie.Need-returns-2
-unfolding cube
+unfolding known registered
 returns-2 c =
-    let a = c .before .before .before .before .before .before .before .args in
+    let a = c .before .before .before .before .before .before .before .before .args in
     sym
     (ap one
-    (ap₂ _&&_ (sym (c .before .before .before .works .ensures) ∙ c .before .before .if1 .taken)
-    (enough (cube (a .n) (now (a .status)) (now (a .links))) (own (now (a .vectors)) (a .k)) (suc (a .k)) (a .a) (omega (arith, c .before .heard-by .ensures, c .if2 .left)))))
+    (ap₂ _&&_ (sym (c .before .before .before .before .works .ensures) ∙ c .before .before .before .if1 .taken)
+    (enough (known (a .n) (now (a .status)) (now (a .masks))) (shown (now (a .bytes))) (suc (a .k)) (a .a) (lt-of-lt-of-le (omega (arith, c .if2 .left)) (le-of-eq (c .before .heard-by .ensures))))))
 
 returns-3 : tie.Need-returns-3
 returns-3 c =
     let a = c .before .before .before .before .before .args in
     sym
-    (ap (λ (t : Bool). one (t && supported (cube (a .n) (now (a .status)) (now (a .links))) (own (now (a .vectors)) (a .k)) (suc (a .k)) (a .a)))
+    (ap (λ (t : Bool). one (t && supported (known (a .n) (now (a .status)) (now (a .masks))) (shown (now (a .bytes))) (suc (a .k)) (a .a)))
     (sym (c .before .works .ensures) ∙ c .if1 .left))
 
 pub next-bit-spec : {M : Type 1} → statement M
@@ -62,6 +69,8 @@ next-bit-spec =
     (tie.spec
     cast-number
     works-requires
+    mul-heard-by
+    shared-slice-read-heard-by
     heard-by-requires
     add-if2
     sub-if2

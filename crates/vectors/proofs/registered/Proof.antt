@@ -1,79 +1,73 @@
 -- `vectors::registered` meets its contract.
-use mathlib.Core.Path.{_≡_, ap, _∙_}
-use Prim.Native.Nat.{ℕ, suc, min, _-_, _*_}
-use native.Mathlib.Nat.{le-trans, le-of-eq, lt-of-le-of-lt}
+use mathlib.Core.Path.{_≡_, refl, ap, ap₂, sym, _∙_}
+use mathlib.Core.Bool.{Bool}
+use Prim.Native.Nat.{ℕ, suc, _+_, _-_, _*_, _≤_}
+use native.Mathlib.Numerals.{add-one}
 use native.Mathlib.Omega.{arith}
 use borrow.Author.Needs.{needs}
-use lib.ListN.{getD}
 use denote.Ref.{now}
-use Rattle.cube.specs.Bits.{bit}
+use native.Mathlib.Nat.{lt-of-le-of-lt}
+use lib.ListN.{getD}
 use Rattle.cube.specs.Count.{one}
-use Rattle.cube.proofs.Count.{one-le}
+use Rattle.cube.proofs.Count.{unless-le}
 use Rattle.report.specs.Report.{cut}
 use Rattle.vectors.specs.Safety.{registered}
 use Rattle.vectors.specs.Held.{held, own}
-use Rattle.vectors.proofs.Held.{registered-digit}
+use Rattle.vectors.proofs.Safety.{registered-digit}
+use Prim.Native.Nat.{ℕ, suc, _+_, _-_, _≤_}
 use Rattle.vectors.proofs.registered.Statement.{statement}
 use Rattle.vectors.proofs.registered.Tie as tie
 
 -- the product is the registered bit
 digit : (c : tie.After-bit-of)
-    → (1 - c .before .before .marked .result) * c .bit-of .result ≡ one (registered (cut (now (c .before .before .before .before .before .before .before .before .args .links))) (own (now (c .before .before .before .before .before .before .before .before .args .vectors)) (c .before .before .before .before .before .before .before .before .args .k)) (c .before .before .before .before .before .before .before .before .args .a) (suc (c .before .before .before .before .before .before .before .before .args .i)))
+    → (1 - c .before .before .faulty .result) * c .bit-of .result ≡ one (registered (cut (now (c .before .before .before .before .before .before .args .links))) (own (now (c .before .before .before .before .before .before .args .vectors)) (c .before .before .before .before .before .before .args .k)) (c .before .before .before .before .before .before .args .a) (suc (c .before .before .before .before .before .before .args .i)))
+unfolding own
 digit c =
-    let a = c .before .before .before .before .before .before .before .before .args in
-    let e = c .before .before .before .before .before .across .ensures in
-    registered-digit (now (a .links)) (now (a .vectors)) (a .k) (a .a) (suc (a .i)) _ _
-    (c .before .before .marked .ensures ∙ ap (λ (x : ℕ). one (bit (getD (now (a .links)) x 0) (suc (a .i)))) (c .before .before .before .before .lower .ensures ∙ ap (min (a .a)) e))
-    (c .bit-of .ensures ∙ ap (λ (x : ℕ). one (held (getD (now (a .vectors)) x 0) (a .k))) e)
+    let a = c .before .before .before .before .before .before .args in
+    registered-digit (cut (now (a .links))) (own (now (a .vectors)) (a .k)) (a .a) (suc (a .i)) _ _
+    (c .before .before .faulty .ensures .0 ∙ ap (λ (x : ℕ). one (cut (now (a .links)) (a .a) x)) (add-one (a .i)))
+    (c .bit-of .ensures .0 ∙ ap (λ (x : ℕ). one (held (getD (now (a .vectors)) x 0) (a .k))) (c .before .before .before .across .ensures))
+
+-- `vectors::registered` meets its contract.
 
 across-requires : tie.Need-across-requires
 across-requires c κs = search needs
 
-lower-requires : tie.Need-lower-requires
-lower-requires c κs = search needs
+cast-bit-of : tie.Need-cast-bit-of
+cast-bit-of c = search needs
 
-mul-word : tie.Need-mul-word
-mul-word c = search needs
+add-faulty : tie.Need-add-faulty
+add-faulty c = search needs
 
-shared-slice-read-word : tie.Need-shared-slice-read-word
-shared-slice-read-word c = omega (arith, c .before .lower .ensures, c .before .before .before .before .before .pre .2)
-
-marked-requires : tie.Need-marked-requires
-marked-requires c κs = search needs
+faulty-requires : tie.Need-faulty-requires
+faulty-requires c κs = search needs
 
 sub-result : tie.Need-sub-result
-sub-result c =
-    let a = c .before .before .before .before .before .before .args in
-    le-trans (le-of-eq (c .marked .ensures)) (one-le (bit (getD (now (a .links)) (c .before .before .lower .result) 0) (suc (a .i))))
+sub-result c = c .faulty .ensures .1
 
 mul-bit-of : tie.Need-mul-bit-of
 mul-bit-of c = search needs
 
 shared-slice-read-bit-of : tie.Need-shared-slice-read-bit-of
-shared-slice-read-bit-of c = lt-of-le-of-lt (le-of-eq (c .before .before .before .before .across .ensures)) (c .before .before .before .before .before .before .before .pre .3)
+shared-slice-read-bit-of c = search needs
 
 bit-of-requires : tie.Need-bit-of-requires
 bit-of-requires c κs = search needs
 
 mul-result : tie.Need-mul-result
-mul-result c =
-    let a = c .before .before .before .before .before .before .before .before .args in
-    record { fits = lt-of-le-of-lt (le-trans (le-of-eq (digit c)) (one-le (registered (cut (now (a .links))) (own (now (a .vectors)) (a .k)) (a .a) (suc (a .i))))) (omega arith) }
+mul-result c = record { fits = lt-of-le-of-lt (unless-le _ _ (c .bit-of .ensures .1)) (omega arith) }
 
 returns : tie.Need-returns
-returns c =
-    let a = c .before .before .before .before .before .before .before .before .args in
-    (digit c, le-trans (le-of-eq (digit c)) (one-le (registered (cut (now (a .links))) (own (now (a .vectors)) (a .k)) (a .a) (suc (a .i)))))
+returns c = (digit c, unless-le _ _ (c .bit-of .ensures .1))
 
 pub registered-spec : {M : Type 1} → statement M
 registered-spec =
     tie.close
     (tie.spec
     across-requires
-    lower-requires
-    mul-word
-    shared-slice-read-word
-    marked-requires
+    cast-bit-of
+    add-faulty
+    faulty-requires
     sub-result
     mul-bit-of
     shared-slice-read-bit-of

@@ -1,38 +1,59 @@
 -- `vectors::round` meets its contract. The loop keeps that it is in the midst of round k at board a.
-use mathlib.Core.Path.{_≡_, refl}
-use Prim.Native.Nat.{suc, _+_, _*_, _-_, _%_, _^_, _≤_, _<_}
-use native.Mathlib.Nat.{le-trans, le-of-eq, lt-of-lt-of-le}
+use mathlib.Core.Path.{_≡_, refl, ap, ap₂, sym, _∙_}
+use mathlib.Core.Bool.{Bool}
+use Prim.Native.Nat.{ℕ, suc, _+_, _-_, _*_, _%_, _^_, _≤_, _<_}
+use native.Mathlib.Numerals.{add-one}
 use native.Mathlib.Omega.{arith}
 use borrow.Author.Needs.{needs}
+use denote.Ref.{now}
+use native.Mathlib.Nat.{le-trans, le-of-eq, lt-of-lt-of-le}
 use lib.ListN.{length, getD, length-set}
 use lib.Pow.{pow-mono}
-use denote.Ref.{now}
-use Rattle.report.specs.Report.{cube}
-use Rattle.vectors.specs.Rounds.{upTo}
-use Rattle.vectors.proofs.Rounds.{Midst, midst-start, midst-end, midst-step, midst-word, upTo-lt}
+use Rattle.cube.specs.Count.{one}
+use Rattle.cube.specs.Table.{table}
+use Rattle.cube.proofs.Table.{length-table}
+use Rattle.vectors.specs.Rounds.{upTo, digit, Digits, known}
+use Rattle.vectors.proofs.Rounds.{Midst, midst-start, midst-end, midst-step, midst-word, upTo-lt, digits-of, shown-next}
 use Rattle.vectors.proofs.round.Statement.{statement}
 use Rattle.vectors.proofs.round.Tie as tie
 
 abbrev Inv-loop : tie.InvT-loop
-Inv-loop n status links vectors₀ k a₀ vectors a = (length vectors ≤ 1024) × (length vectors ≡ length vectors₀) × Midst (cube n status links) k a vectors
+Inv-loop n status masks bytes vectors₀ k a₀ vectors a = (length vectors ≤ 1024) × (length vectors ≡ length vectors₀) × Midst (known n status masks) k a vectors
 
 abbrev μ-loop : tie.MeasureT-loop
-μ-loop n status links vectors₀ k a₀ vectors a = length vectors - a
+μ-loop n status masks bytes vectors₀ k a₀ vectors a = length vectors - a
+
+at-board : (c : tie.After-slice-known2 Inv-loop μ-loop) → c .before .before .before .loop .a < 2 ^ (c .before .before .before .before .before .before .before .before .args .n)
+unfolding known
+at-board c = omega (arith, c .before .before .before .loop .inv .2 .long)
+
+-- what is stored at board a
+word : (c : tie.After-slice-known2 Inv-loop μ-loop)
+    → getD (c .before .before .before .loop .vectors) (c .before .before .before .loop .a) 0 + c .before .next-bit .result * 2 ^ (c .before .before .before .before .before .before .before .before .args .k) % 65536
+    ≡ upTo (known (c .before .before .before .before .before .before .before .before .args .n) (now (c .before .before .before .before .before .before .before .before .args .status)) (now (c .before .before .before .before .before .before .before .before .args .masks))) (suc (c .before .before .before .before .before .before .before .before .args .k)) (c .before .before .before .loop .a)
+unfolding known
+word c =
+    let s = c .before .before .before .before .before .before .before .before in
+    let a = s .args in
+    let l = c .before .before .before .loop in
+    let K = known (a .n) (now (a .status)) (now (a .masks)) in
+    midst-word K (a .k) (l .a) (l .vectors) (l .inv .2) (at-board c) (omega arith) _
+    (c .before .next-bit .ensures ∙ ap one (shown-next K (a .k) (now (a .vectors)) (now (a .bytes)) (s .pre .3) (s .pre .4) (omega arith) (l .a) (at-board c)))
 
 loop-holds : tie.Need-loop-holds Inv-loop μ-loop
-unfolding cube
+unfolding known
 loop-holds c =
-    let s = c .before .before .before in
+    let s = c .before .before .before .before in
     let a = s .args in
-    let m = midst-start (cube (a .n) (now (a .status)) (now (a .links))) (a .k) (now (a .vectors)) (s .pre .3) in
+    let m = midst-start (known (a .n) (now (a .status)) (now (a .masks))) (a .k) (now (a .vectors)) (s .pre .3) in
     (le-trans (le-of-eq (m .long)) (pow-mono {i = a .n} {j = 10} (s .pre .0)), refl, m)
 
 next-bit-requires : tie.Need-next-bit-requires Inv-loop μ-loop
-unfolding cube
+unfolding known
 next-bit-requires c κs =
     let s = c .before .before .before .before .before .before in
-    let m = c .before .before .loop .inv in
-    (s .pre .0, omega arith, omega (arith, m .2 .long), s .pre .2, m .2 .long)
+    let m = c .before .loop .inv in
+    (s .pre .0, s .pre .1, omega (arith, m .2 .long), s .pre .2, ap length (s .pre .4) ∙ length-table (digit (now (s .args .vectors)) (s .args .k)) (2 ^ (s .args .n)), rw (s .pre .4) (digits-of (now (s .args .vectors)) (s .args .k) (2 ^ (s .args .n))))
 
 mul-vectors : tie.Need-mul-vectors Inv-loop μ-loop
 mul-vectors c = search needs
@@ -46,24 +67,11 @@ cast-vectors c = search needs
 shl-vectors : tie.Need-shl-vectors Inv-loop μ-loop
 shl-vectors c = search needs
 
-at-board : (c : tie.After-slice-known2 Inv-loop μ-loop) → c .before .before .before .before .loop .a < 2 ^ (c .before .before .before .before .before .before .before .before .args .n)
-unfolding cube
-at-board c = omega (arith, c .before .before .before .before .loop .inv .2 .long)
-
--- what is stored at board a
-word : (c : tie.After-slice-known2 Inv-loop μ-loop)
-    → getD (c .before .before .before .before .loop .vectors) (c .before .before .before .before .loop .a) 0 + c .before .next-bit .result * 2 ^ (c .before .before .before .before .before .before .before .before .args .k) % 65536
-    ≡ upTo (cube (c .before .before .before .before .before .before .before .before .args .n) (now (c .before .before .before .before .before .before .before .before .args .status)) (now (c .before .before .before .before .before .before .before .before .args .links))) (suc (c .before .before .before .before .before .before .before .before .args .k)) (c .before .before .before .before .loop .a)
-unfolding cube
-word c =
-    let a = c .before .before .before .before .before .before .before .before .args in
-    midst-word (cube (a .n) (now (a .status)) (now (a .links))) (a .k) (c .before .before .before .before .loop .a) (c .before .before .before .before .loop .vectors) (c .before .before .before .before .loop .inv .2) (omega arith) (at-board c) (omega arith) _ (c .before .next-bit .ensures)
-
 add-vectors : tie.Need-add-vectors Inv-loop μ-loop
-unfolding cube
+unfolding known
 add-vectors c =
     let a = c .before .before .before .before .before .before .before .before .args in
-    record { fits = rw (word c) (lt-of-lt-of-le (upTo-lt (cube (a .n) (now (a .status)) (now (a .links))) (suc (a .k)) (c .before .before .before .before .loop .a)) (pow-mono {i = suc (a .k)} {j = 16} (omega arith))) }
+    record { fits = rw (word c) (lt-of-lt-of-le (upTo-lt (known (a .n) (now (a .status)) (now (a .masks))) (suc (a .k)) (c .before .before .before .loop .a)) (pow-mono {i = suc (a .k)} {j = 16} (omega arith))) }
 
 mul-vectors-2 : tie.Need-mul-vectors-2 Inv-loop μ-loop
 mul-vectors-2 c = search needs
@@ -78,21 +86,24 @@ loop-less : tie.Need-loop-less Inv-loop μ-loop
 loop-less c = simp length-set (omega arith)
 
 loop-again : tie.Need-loop-again Inv-loop μ-loop
-unfolding cube
+unfolding known
 loop-again c =
-    let a = c .before .before .before .before .before .before .before .before .args in (
+    let a = c .before .before .before .before .before .before .before .before .args in
+    let l = c .before .before .before .loop in (
       simp length-set (omega arith),
       simp length-set (omega arith),
-      midst-step (cube (a .n) (now (a .status)) (now (a .links))) (a .k) (c .before .before .before .before .loop .a) (c .before .before .before .before .loop .vectors) (c .before .before .before .before .loop .inv .2) (at-board c) _ (word c),
+      midst-step (known (a .n) (now (a .status)) (now (a .masks))) (a .k) (l .a) (l .vectors) (l .inv .2) (at-board c) _ (word c),
     )
 
 same-length : tie.Need-same-length Inv-loop μ-loop
 same-length c = search needs
 
 returns : tie.Need-returns Inv-loop μ-loop
+unfolding known
 returns c =
-    let a = c .before .before .before .before .before .args in
-    midst-end (cube (a .n) (now (a .status)) (now (a .links))) (a .k) _ _ (c .loop-test .left) (c .before .loop .inv .2)
+    let a = c .before .before .before .before .before .before .args in
+    let l = c .before .loop in
+    midst-end (known (a .n) (now (a .status)) (now (a .masks))) (a .k) (l .a) (l .vectors) (omega arith) (l .inv .2)
 
 pub round-spec : {M : Type 1} → statement M
 round-spec =

@@ -1,0 +1,43 @@
+-- `vectors::by_rounds` meets its contract: over the masks of the faulty links the rounds give what the report says.
+use mathlib.Core.Path.{_≡_, ap, sym, _∙_}
+use borrow.Author.Needs.{needs}
+use denote.Ref.{now}
+use mathlib.Core.List.{List}
+use Prim.Native.Nat.{ℕ}
+use Rattle.vectors.specs.Rounds.{after, known}
+use Rattle.vectors.proofs.Rounds.{after-known}
+use Rattle.vectors.proofs.by_rounds.Statement.{statement}
+use Rattle.vectors.proofs.by_rounds.Tie as tie
+
+all-faults-requires : tie.Need-all-faults-requires
+all-faults-requires c κs = search needs
+
+all-rounds-requires : tie.Need-all-rounds-requires
+all-rounds-requires c κs = search needs
+
+same-length : tie.Need-same-length
+same-length c = search needs
+
+same-length-2 : tie.Need-same-length-2
+same-length-2 c = search needs
+
+same-length-3 : tie.Need-same-length-3
+same-length-3 c = search needs
+
+returns : tie.Need-returns
+returns c =
+    let a = c .before .before .before .before .before .before .before .before .before .before .before .before .before .before .before .before .before .args in
+    c .before .before .before .before .all-rounds .ensures
+    ∙ ap (λ (masks : List ℕ). after (known (a .n) (now (a .status)) masks) (a .n)) (c .before .before .before .before .before .before .before .before .before .before .all-faults .ensures)
+    ∙ after-known (a .n) (now (a .status)) (now (a .links))
+
+pub by-rounds-spec : {M : Type 1} → statement M
+by-rounds-spec =
+    tie.close
+    (tie.spec
+    all-faults-requires
+    all-rounds-requires
+    same-length
+    same-length-2
+    same-length-3
+    returns)

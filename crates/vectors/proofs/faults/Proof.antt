@@ -1,0 +1,87 @@
+-- `vectors::faults` meets its contract. The loop keeps that the mask is that of dimensions 1 to i.
+use mathlib.Core.Path.{_≡_, refl, ap, ap₂, sym, _∙_}
+use mathlib.Core.Bool.{Bool}
+use Prim.Native.Nat.{ℕ, suc, _+_, _-_, _*_, _≤_}
+use native.Mathlib.Numerals.{add-one}
+use native.Mathlib.Omega.{arith}
+use borrow.Author.Needs.{needs}
+use denote.Ref.{now}
+use Prim.Native.Nat.{ℕ, suc, _+_, _-_, _≤_}
+use Rattle.cube.specs.Count.{one, pack}
+use Rattle.cube.proofs.Count.{pack-more, pack-fits}
+use Rattle.report.specs.Report.{cut}
+use Rattle.vectors.specs.Rounds.{faults}
+use Rattle.vectors.proofs.faults.Statement.{statement}
+use Rattle.vectors.proofs.faults.Tie as tie
+
+-- `vectors::faults` meets its contract. The loop keeps that the mask is that of dimensions 1 to i.
+
+abbrev Inv-loop : tie.InvT-loop
+Inv-loop n links a mask₀ i₀ mask i = (i ≤ n) × (mask ≡ pack (cut links a) i)
+
+abbrev μ-loop : tie.MeasureT-loop
+μ-loop n links a mask₀ i₀ mask i = n - i
+
+loop-holds : tie.Need-loop-holds Inv-loop μ-loop
+unfolding pack
+loop-holds c = search needs
+
+cast-mask : tie.Need-cast-mask Inv-loop μ-loop
+cast-mask c = search needs
+
+add-faulty : tie.Need-add-faulty Inv-loop μ-loop
+add-faulty c = search needs
+
+faulty-requires : tie.Need-faulty-requires Inv-loop μ-loop
+faulty-requires c κs = search needs
+
+cast-bit : tie.Need-cast-bit Inv-loop μ-loop
+cast-bit c = omega (arith, c .faulty .ensures .1)
+
+cast-mask-2 : tie.Need-cast-mask-2 Inv-loop μ-loop
+cast-mask-2 c = search needs
+
+shl-mask : tie.Need-shl-mask Inv-loop μ-loop
+shl-mask c = search needs
+
+add-mask : tie.Need-add-mask Inv-loop μ-loop
+add-mask c =
+    let a = c .before .before .before .before .args in
+    record { fits = rw (c .before .before .loop .inv .1) (pack-fits (cut (now (a .links)) (a .a)) (c .before .before .loop .i) 16 (c .faulty .result) (omega arith) (c .faulty .ensures .0)) }
+
+add-i : tie.Need-add-i Inv-loop μ-loop
+add-i c = search needs
+
+loop-less : tie.Need-loop-less Inv-loop μ-loop
+loop-less c = search needs
+
+loop-again : tie.Need-loop-again Inv-loop μ-loop
+loop-again c =
+    let a = c .before .before .before .before .args in
+    (omega arith, rw (c .before .before .loop .inv .1) (pack-more (cut (now (a .links)) (a .a)) (c .before .before .loop .i) 16 (c .faulty .result) (omega arith) (c .faulty .ensures .0)))
+
+returns : tie.Need-returns Inv-loop μ-loop
+unfolding faults
+returns c =
+    let a = c .before .before .before .args in
+    let e : c .before .loop .i ≡ a .n = omega arith in
+    c .before .loop .inv .1 ∙ ap (pack (cut (now (a .links)) (a .a))) e
+
+pub faults-spec : {M : Type 1} → statement M
+faults-spec =
+    tie.close
+    (tie.spec
+    Inv-loop
+    μ-loop
+    loop-holds
+    cast-mask
+    add-faulty
+    faulty-requires
+    cast-bit
+    cast-mask-2
+    shl-mask
+    add-mask
+    add-i
+    loop-less
+    loop-again
+    returns)

@@ -1,0 +1,66 @@
+-- `vectors::in_many` meets its contract: the parts that it lends lie within its arrays.
+use mathlib.Core.Path.{_≡_, ap, sym, _∙_}
+use borrow.Author.Needs.{needs}
+use denote.Ref.{now}
+use Prim.Native.Nat.{_^_, _≤_}
+use native.Mathlib.Omega.{arith}
+use lib.Pow.{pow-mono}
+use Rattle.vectors.proofs.in_many.Statement.{statement}
+use Rattle.vectors.proofs.in_many.Tie as tie
+
+-- it has at most 1,024 nodes
+few : (c : tie.Start) → 2 ^ c .args .n ≤ 1024
+few c = pow-mono {i = c .args .n} {j = 10} (c .pre .0)
+
+shl-nodes : tie.Need-shl-nodes
+shl-nodes c = search needs
+
+room-for-masks-requires : tie.Need-room-for-masks-requires
+room-for-masks-requires c κs = search needs
+
+room-for-bytes-requires : tie.Need-room-for-bytes-requires
+room-for-bytes-requires c κs = search needs
+
+sub-by-rounds : tie.Need-sub-by-rounds
+sub-by-rounds c = search needs
+
+part-masks-start : tie.Need-part-masks-start
+part-masks-start c = search needs
+
+part-masks-end : tie.Need-part-masks-end
+part-masks-end c = omega (arith, few (c .before .before .before .before .before))
+
+sub-by-rounds-2 : tie.Need-sub-by-rounds-2
+sub-by-rounds-2 c = search needs
+
+part-bytes-start : tie.Need-part-bytes-start
+part-bytes-start c = search needs
+
+part-bytes-end : tie.Need-part-bytes-end
+part-bytes-end c = omega (arith, few (c .before .before .before .before .before .before))
+
+by-rounds-requires : tie.Need-by-rounds-requires
+by-rounds-requires c κs = search needs
+
+same-length : tie.Need-same-length
+same-length c = search needs
+
+returns : tie.Need-returns
+returns c = search needs
+
+pub in-many-spec : {M : Type 1} → statement M
+in-many-spec =
+    tie.close
+    (tie.spec
+    shl-nodes
+    room-for-masks-requires
+    room-for-bytes-requires
+    sub-by-rounds
+    part-masks-start
+    part-masks-end
+    sub-by-rounds-2
+    part-bytes-start
+    part-bytes-end
+    by-rounds-requires
+    same-length
+    returns)

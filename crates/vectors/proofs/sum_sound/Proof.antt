@@ -1,0 +1,69 @@
+-- `vectors::sum_sound` meets its contract. The loop keeps that the sum is the count along dimensions 1 to i.
+use mathlib.Core.Path.{_≡_, refl, ap, ap₂, sym, _∙_}
+use mathlib.Core.Bool.{Bool}
+use Prim.Native.Nat.{ℕ, suc, _+_, _-_, _*_, _≤_}
+use native.Mathlib.Numerals.{add-one}
+use native.Mathlib.Omega.{arith}
+use borrow.Author.Needs.{needs}
+use denote.Ref.{now}
+use Rattle.cube.specs.Count.{one, count}
+use Rattle.cube.proofs.Bits.{flip-lt}
+use Rattle.cube.proofs.Count.{count-le, count-step}
+use Rattle.vectors.specs.Safety.{registered}
+use Rattle.vectors.specs.Rounds.{shown, masked}
+use Rattle.vectors.proofs.sum_sound.Statement.{statement}
+use Rattle.vectors.proofs.sum_sound.Tie as tie
+
+abbrev Inv-loop : tie.InvT-loop
+Inv-loop n mask bytes a sum₀ i₀ sum i = (i ≤ n) × (sum ≡ count (registered (masked mask) (shown bytes) a) i)
+
+abbrev μ-loop : tie.MeasureT-loop
+μ-loop n mask bytes a sum₀ i₀ sum i = n - i
+
+loop-holds : tie.Need-loop-holds Inv-loop μ-loop
+unfolding count
+loop-holds c = search needs
+
+shown-past-requires : tie.Need-shown-past-requires Inv-loop μ-loop
+shown-past-requires c κs =
+    let s = c .before .before .before in
+    let p = s .pre in
+    (omega arith, rw (p .2) (flip-lt (s .args .n) (s .args .a) (suc (c .before .loop .i)) (p .1) (c .loop-test .taken)), p .3)
+
+add-sum : tie.Need-add-sum Inv-loop μ-loop
+add-sum c =
+    let a = c .before .before .before .before .args in
+    omega (arith, c .before .before .loop .inv .1, count-le (registered (masked (a .mask)) (shown (now (a .bytes))) (a .a)) (c .before .before .loop .i), c .shown-past .ensures .1)
+
+add-i : tie.Need-add-i Inv-loop μ-loop
+add-i c = search needs
+
+loop-less : tie.Need-loop-less Inv-loop μ-loop
+loop-less c = search needs
+
+loop-again : tie.Need-loop-again Inv-loop μ-loop
+loop-again c =
+    let a = c .before .before .before .before .args in
+    let p : ℕ → Bool = registered (masked (a .mask)) (shown (now (a .bytes))) (a .a) in
+    let i = c .before .before .loop .i in
+    (omega arith, ap₂ _+_ (c .before .before .loop .inv .1) (c .shown-past .ensures .0 ∙ ap (λ (x : ℕ). one (p x)) (sym (add-one i))) ∙ sym (count-step p i))
+
+returns : tie.Need-returns Inv-loop μ-loop
+returns c =
+    let a = c .before .before .before .args in
+    let e : c .before .loop .i ≡ a .n = omega arith in
+    c .before .loop .inv .1 ∙ ap (count (registered (masked (a .mask)) (shown (now (a .bytes))) (a .a))) e
+
+pub sum-sound-spec : {M : Type 1} → statement M
+sum-sound-spec =
+    tie.close
+    (tie.spec
+    Inv-loop
+    μ-loop
+    loop-holds
+    shown-past-requires
+    add-sum
+    add-i
+    loop-less
+    loop-again
+    returns)
