@@ -1,5 +1,5 @@
 #!/usr/bin/env python3
-"""What the program `cases_run` must print, by document 01's rules written down here a second time.
+"""What the program `cases_run` must print, by the rules of document 01 and Ask 2 written down here a second time.
 
   tests/cases.py                prints it
   tests/cases.py FILE           exit status 1 unless the file has just that
@@ -10,7 +10,7 @@ LENT = 99
 out = []
 
 
-# ---- document 01's rules
+# ---- the rules
 
 
 def weight(x):
@@ -26,7 +26,9 @@ def class_of(byte):
 
 
 def faulty(links, a, i):
-    return links[min(a, a ^ 2 ** (i - 1))] >> (i - 1) & 1 == 1
+    """Whether the word of a or of its neighbour along i marks the link between them."""
+    ends = (a, a ^ 2 ** (i - 1))
+    return any(links[end] >> (i - 1) & 1 == 1 for end in ends)
 
 
 def definition_1(n, status, links):
@@ -278,6 +280,9 @@ for case in (
     say_fill(*case)
 VECTORS_L = vectors_of(4, STATUS_L, LINKS_L)
 out.append("fill L: done" + lent("vectors", VECTORS_L))
+for word in (1, 4):
+    vectors = vectors_of(4, STATUS_F, words(16, {3: word}))
+    out.append("fill F, word %d at node 3, which is down: done%s" % (word, lent("vectors", vectors)))
 
 for case in ((0, 16, 16, 16), (11, 16, 16, 16), (11, 16, 16, 17), (4, 15, 16, 16), (4, 16, 17, 16), (4, 16, 16, 15)):
     say_decide(*case, 1, 12)
@@ -322,6 +327,15 @@ for pick, s, d in ((0, 1, 11), (0, 0, 0), (0, 1, 12), (1, 1, 12), (255, 1, 12), 
 for s, d in ((14, 9), (12, 13), (5, 10)):
     say_trip("journey L, picks 0 1 2 3 4 5", s, d, *journey(4, STATUS_L, LINKS_L, 16, [0, 1, 2, 3, 4, 5], 6, s, d))
 
+for links in ([0, 0], [0, 1], [1, 0], [1, 1]):
+    pair = " of two boards, words %d %d" % tuple(links)
+    vectors = vectors_of(1, [1, 1], links)
+    out.append("fill%s: done%s" % (pair, lent("vectors", vectors)))
+    for s, d in ((0, 1), (1, 0)):
+        out.append("decide%s, %d to %d: %s" % (pair, s, d, answer(decide(1, [1, 1], links, vectors, s, d))))
+        out.append("hop%s, at %d by 1: %s" % (pair, s, answer(hop(1, [1, 1], links, vectors, s, 1))))
+        say_trip("journey" + pair, s, d, *journey(1, [1, 1], links, 2, [0, 0], 3, s, d))
+
 for length in (0, 4, 5, 16):
     say_open("the example's first %d" % length, FOUR[:length])
 for case in (
@@ -365,7 +379,7 @@ out += listing(CLASSES)
 for n in range(1, 11):
     nodes = 2**n
     status = [254 if (a * 5 + n) % 7 == 3 else 1 for a in range(nodes)]
-    links = [(nodes - 1 - a) % 8 if (a * 3 + n) % 31 == 5 else a for a in range(nodes)]
+    links = [(nodes - 1 - a) % 8 if (a * 3 + n) % 31 == 5 else a if (a * 7 + n) % 37 == 11 else 0 for a in range(nodes)]
     total = 0
     for word in vectors_of(n, status, links):
         total = (total * 31 + word) % 1000003

@@ -6,7 +6,7 @@
  *
  * A report is one status byte and one 16-bit link word for each node. In a node's link word the
  * bit of weight 2^(i-1) marks its link along dimension i. A link counts as faulty if the word of
- * its lower-numbered end marks it.
+ * either end marks it, also of an end that isn't working.
  *
  * A vector is a 16-bit word with bit k, 1 to n, at weight 2^(k-1). Where bit k of a node is 1, it
  * reaches every working node at distance k by a shortest path.

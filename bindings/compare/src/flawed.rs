@@ -15,7 +15,9 @@ pub enum Flaw {
     NeighbourLostClearsBitOne,
     OwnBitAcrossBadLink,
     SameRound,
-    UpperEndCounts,
+    LowerEndAlone,
+    UpperEndAlone,
+    BothEndsNeeded,
     FillCarriesOnAfterLinks,
     DetourBeforeLent,
     OwnBitOnly,
@@ -54,7 +56,7 @@ pub enum Flaw {
 }
 
 impl Flaw {
-    pub const ALL: [Flaw; 44] = [
+    pub const ALL: [Flaw; 46] = [
         Flaw::DimensionWraps,
         Flaw::LengthsWrap,
         Flaw::FifthSweepWorks,
@@ -63,7 +65,9 @@ impl Flaw {
         Flaw::NeighbourLostClearsBitOne,
         Flaw::OwnBitAcrossBadLink,
         Flaw::SameRound,
-        Flaw::UpperEndCounts,
+        Flaw::LowerEndAlone,
+        Flaw::UpperEndAlone,
+        Flaw::BothEndsNeeded,
         Flaw::FillCarriesOnAfterLinks,
         Flaw::DetourBeforeLent,
         Flaw::OwnBitOnly,
@@ -110,7 +114,7 @@ fn working(byte: u8) -> bool {
 }
 
 fn faulty(links: &[u16], a: usize, i: u32) -> bool {
-    links[a & !(1 << i)] >> i & 1 == 1
+    (links[a] | links[a ^ 1 << i]) >> i & 1 == 1
 }
 
 /// The spare dimensions whose neighbour has registered bit H+1, as a mask.
@@ -135,15 +139,20 @@ impl Flawed {
         status.iter().map(taken).collect()
     }
 
-    /// The link words as this door takes them.
-    fn links(&self, n: u32, links: &[u16]) -> Vec<u16> {
-        let mut taken = links.to_vec();
-        if self.has(Flaw::UpperEndCounts) {
-            for (a, i) in (0..links.len()).flat_map(|a| (0..n.min(10)).map(move |i| (a, i))) {
-                taken[a & !(1 << i)] |= links[a] & 1 << i;
-            }
+    /// Whether a mark in the word of node a counts, where its link goes to a xor 2^i.
+    fn counts(&self, links: &[u16], a: usize, i: u32) -> bool {
+        match self.0 {
+            Flaw::LowerEndAlone => a >> i & 1 == 0,
+            Flaw::UpperEndAlone => a >> i & 1 == 1,
+            Flaw::BothEndsNeeded => links.get(a ^ 1 << i).is_some_and(|word| word >> i & 1 == 1),
+            _ => true,
         }
-        taken
+    }
+
+    /// The link words as this door takes them: with the marks that count, and those above n.
+    fn links(&self, n: u32, links: &[u16]) -> Vec<u16> {
+        let left_out = |a| (0..n.min(10)).filter(|&i| !self.counts(links, a, i)).map(|i| 1 << i).sum::<u16>();
+        links.iter().enumerate().map(|(a, word)| word & !left_out(a)).collect()
     }
 
     /// The rounds, over a report that Fill accepts.

@@ -1,4 +1,4 @@
-//! The rules of document 01 and Wu's Definition 1, and of Ask 1 of document 02, as plain Rust.
+//! The rules of document 01 and Wu's Definition 1, and of Asks 1 and 2 of document 02, as plain Rust.
 //!
 //! Dimensions and bits count from 1, as in the paper. Nothing here is meant to be fast.
 
@@ -69,10 +69,10 @@ impl Cube<'_> {
         }
     }
 
-    /// Whether the link of a along i counts as faulty: its lower end's word alone says so.
+    /// Whether the link of a along i counts as faulty: a's word marks it, or its neighbour's does.
     fn faulty(&self, a: usize, i: u32) -> bool {
-        let lower = a.min(self.neighbour(a, i));
-        bit(self.links[lower] as usize, i)
+        let marked_by = |end: usize| bit(self.links[end] as usize, i);
+        marked_by(a) || marked_by(self.neighbour(a, i))
     }
 
     /// The first bits of all nodes.

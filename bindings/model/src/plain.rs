@@ -49,9 +49,9 @@ fn check_ends(size: usize, status: &[u8], source: usize, destination: usize) -> 
     }
 }
 
-/// Whether the link of `node` along the dimension of this weight is sound.
+/// Whether the link of `node` along the dimension of this weight is sound: neither end marks it.
 fn sound(links: &[u16], node: usize, weight: usize) -> bool {
-    links[node & !weight] as usize & weight == 0
+    (links[node] | links[node ^ weight]) as usize & weight == 0
 }
 
 fn first_round(n: u32, status: &[u8], links: &[u16], vectors: &mut [u16]) {

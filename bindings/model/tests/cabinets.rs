@@ -1,4 +1,4 @@
-//! Document 01's cabinets and cases, asked of the model and of plain Rust.
+//! The cabinets and cases of document 01, and Ask 2's two boards, asked of the model and of plain Rust.
 
 use deruvain_model::model::{class_name, listing, ASSURED, DETOUR, HOME, LENT};
 use deruvain_model::{Answer, Door, Model, Opened, Plain};
@@ -87,17 +87,39 @@ fn cases_b_to_k_journeys() {
     }
 }
 
-#[test]
-fn cases_g_h_and_m_refusals() {
-    let pair = cabinet(1, &[], &[(0, 1)]);
-    let upper_end_only = cabinet(1, &[], &[(1, 1)]);
+/// Decide and Journey answer the same, and the path is this.
+fn answers(cabinet: &Cabinet, s: u16, d: u16, answer: Answer, path: &[u16]) {
     for (name, door) in DOORS {
-        for (cabinet, s, d, refusal) in [(f(), 1, 11, 7), (f(), 3, 0, 5), (f(), 0, 3, 6)] {
-            assert_eq!(cabinet.decide(door, s, d), Answer::refused(refusal), "{name}");
-            assert_eq!(cabinet.journey(door, s, d), (Answer::refused(refusal), vec![]), "{name}");
+        assert_eq!(cabinet.decide(door, s, d), answer, "{name}, {s} to {d}");
+        assert_eq!(cabinet.journey(door, s, d), (answer, path.to_vec()), "{name}, {s} to {d}");
+    }
+}
+
+#[test]
+fn cases_g_and_h_refusals() {
+    for (s, d, refusal) in [(1, 11, 7), (3, 0, 5), (0, 3, 6)] {
+        answers(&f(), s, d, Answer::refused(refusal), &[]);
+    }
+}
+
+#[test]
+fn case_m_and_ask_2_one_end_is_enough() {
+    let lower_end_only = cabinet(1, &[], &[(0, 1)]);
+    let upper_end_only = cabinet(1, &[], &[(1, 1)]);
+    let both_ends = cabinet(1, &[], &[(0, 1), (1, 1)]);
+    for (s, d) in [(0, 1), (1, 0)] {
+        for marked in [&lower_end_only, &upper_end_only, &both_ends] {
+            answers(marked, s, d, Answer::refused(7), &[]);
         }
-        assert_eq!(pair.decide(door, 0, 1), Answer::refused(7), "{name}");
-        assert_eq!(upper_end_only.journey(door, 0, 1), (Answer::accepted(ASSURED, 1, 1), vec![0, 1]), "{name}");
+        answers(&cabinet(1, &[], &[]), s, d, Answer::accepted(ASSURED, 1, 1), &[s, d]);
+    }
+}
+
+#[test]
+fn the_word_of_a_board_that_is_down_counts() {
+    for (name, door) in DOORS {
+        let vectors = cabinet(2, &[3], &[(3, 2)]).vectors(door);
+        assert_eq!(vectors, [3, 2, 3, 0], "{name}");
     }
 }
 

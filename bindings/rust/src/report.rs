@@ -19,8 +19,8 @@ pub struct Report {
     pub n: u32,
     /// One byte for each node: 1 to 4 for a working one (see [`Class`]).
     pub status: Vec<u8>,
-    /// One word for each node: the bit of weight 2^(i−1) marks its link along dimension i. The
-    /// mark of the lower-numbered end counts.
+    /// One word for each node: the bit of weight 2^(i−1) marks its link along dimension i. A link
+    /// counts as faulty if the word of either end marks it, also of an end that isn't working.
     pub links: Vec<u16>,
 }
 
@@ -114,22 +114,21 @@ impl Report {
         self.status.get(node.0 as usize).map(|&byte| Class::of(byte))
     }
 
-    /// Marks the link of a node along a dimension as faulty, at its lower end. A node that the
-    /// report lacks, or a dimension outside 1 to 10, changes nothing.
+    /// Marks the link of a node along a dimension as faulty, in the word of that node. A node that
+    /// the report lacks, or a dimension outside 1 to 10, changes nothing.
     ///
     /// ```
     /// use deruvain::{Node, Refusal, Report};
     ///
     /// let mut report = Report::healthy(1)?;
     /// report.mark(Node(1), 1);
-    /// assert_eq!(report.links, [1, 0]);
+    /// assert_eq!(report.links, [0, 1]);
     /// assert_eq!(report.journey(&[0; 2], Node(0), Node(1)), Err(Refusal::NoRoute));
     /// # Ok::<(), Refusal>(())
     /// ```
     pub fn mark(&mut self, node: Node, dimension: u32) {
-        let other = node.neighbour(dimension);
-        if let Some(word) = self.links.get_mut(node.min(other).0 as usize) {
-            *word |= node.to(other).0;
+        if let Some(word) = self.links.get_mut(node.0 as usize) {
+            *word |= node.to(node.neighbour(dimension)).0;
         }
     }
 

@@ -10,12 +10,17 @@ fn f() -> Report {
     report
 }
 
-fn l() -> Report {
+/// Cabinet L, its two bad links marked by these nodes.
+fn l_marked_by(one: u16, other: u16) -> Report {
     let mut report = Report::healthy(4).unwrap();
     report.status[11] = 254;
-    report.mark(Node(13), 1);
-    report.mark(Node(2), 2);
+    report.mark(Node(one), 1);
+    report.mark(Node(other), 2);
     report
+}
+
+fn l() -> Report {
+    l_marked_by(12, 0)
 }
 
 fn path(report: &Report, source: u16, destination: u16) -> Vec<u16> {
@@ -29,9 +34,29 @@ fn decided(report: &Report, source: u16, destination: u16) -> Result<(Kind, u16,
 }
 
 #[test]
-fn cabinet_l_is_marked_at_the_lower_ends() {
-    let marked: Vec<(usize, u16)> = l().links.iter().copied().enumerate().filter(|(_, word)| *word != 0).collect();
-    assert_eq!(marked, [(0, 2), (12, 1)]);
+fn cabinet_l_is_the_same_by_the_mark_of_either_end() {
+    assert_eq!(l().fill().unwrap().0, [10, 15, 10, 13, 13, 15, 15, 15, 13, 13, 13, 0, 10, 10, 15, 13]);
+    let other_ends = [l_marked_by(13, 0), l_marked_by(12, 2), l_marked_by(13, 2)];
+    for same in other_ends {
+        assert_ne!(same.links, l().links);
+        assert_eq!(same.fill(), l().fill());
+        for (s, d) in (0..256).map(|pair| (pair / 16, pair % 16)) {
+            assert_eq!(decided(&same, s, d), decided(&l(), s, d));
+            assert_eq!(same.journey(&[0; 5], Node(s), Node(d)), l().journey(&[0; 5], Node(s), Node(d)));
+        }
+    }
+}
+
+#[test]
+fn a_mark_stands_in_the_word_of_its_node() {
+    let mut report = Report::healthy(2).unwrap();
+    report.mark(Node(3), 1);
+    report.mark(Node(0), 2);
+    report.mark(Node(0), 1);
+    for (node, dimension) in [(4, 1), (1, 0), (1, 11)] {
+        report.mark(Node(node), dimension);
+    }
+    assert_eq!(report.links, [3, 0, 0, 1]);
 }
 
 #[test]

@@ -14,7 +14,7 @@ fn answer(decision: Decision) {
 }
 
 // Decides, and prints source, destination and answer.
-fn decide(n: u32, status: &[u8], links: &[u16], vectors: &[u16], s: u16, d: u16) {
+pub(crate) fn decide(n: u32, status: &[u8], links: &[u16], vectors: &[u16], s: u16, d: u16) {
     let decision = routing::decide(n, status, links, vectors, Node(s), Node(d));
     say::ends(s, d);
     say::say(b": ");

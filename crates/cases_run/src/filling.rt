@@ -4,8 +4,8 @@ use crate::say;
 use vectors::Filled;
 ghost use Prim.Native.Nat.{_≤_};
 
-// Prints what Fill answers, and the lent vectors.
-fn answer(filled: Filled) {
+// Prints what Fill answers.
+pub(crate) fn answer(filled: Filled) {
     match filled {
         Filled::Done => say::say(b": done"),
         Filled::Refused(by) => {
@@ -45,6 +45,19 @@ fn cabinet_l() {
     say::say(b"\n");
 }
 
+// Fills cabinet F with this word for node 3, which is down.
+fn marked_by_3(word: u16) {
+    let mut marks = [0u16; 16];
+    marks[3] = word;
+    let mut lent = [say::LENT; 16];
+    let filled = vectors::fill(4, &cabinets::STATUS_F[0..16], &marks, &mut lent);
+    say::number(b"fill F, word ", word as u64);
+    say::say(b" at node 3, which is down");
+    answer(filled);
+    say::lent(b", vectors", &lent);
+    say::say(b"\n");
+}
+
 // All of them.
 pub(crate) fn all() {
     fill(0, 16, 16, 16, 0);
@@ -61,4 +74,6 @@ pub(crate) fn all() {
     fill(4, 16, 16, 16, 0);
     fill(4, 16, 16, 16, 15);
     cabinet_l();
+    marked_by_3(1);
+    marked_by_3(4);
 }

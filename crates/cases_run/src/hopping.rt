@@ -16,7 +16,7 @@ fn answer(step: Step) {
 }
 
 // Hops, and prints node, relative address and answer.
-fn hop(n: u32, status: &[u8], links: &[u16], vectors: &[u16], a: u16, nav: u16) {
+pub(crate) fn hop(n: u32, status: &[u8], links: &[u16], vectors: &[u16], a: u16, nav: u16) {
     let step = routing::hop(n, status, links, vectors, Node(a), Nav(nav));
     say::number(b", at ", a as u64);
     say::number(b" by ", nav as u64);

@@ -26,7 +26,7 @@ fn head(n: u32, vectors: usize, picks: usize, path: usize, word: u16) {
 }
 
 // Prints source and destination, and what Journey answers.
-fn tell(s: u16, d: u16, trip: Trip) {
+pub(crate) fn tell(s: u16, d: u16, trip: Trip) {
     say::ends(s, d);
     say::say(b": ");
     answer(trip);

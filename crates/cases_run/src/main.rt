@@ -8,6 +8,7 @@ mod hopping;
 mod journeys;
 mod navs;
 mod opening;
+mod pairs;
 mod patterns;
 mod say;
 
@@ -18,6 +19,7 @@ fn main() {
     deciding::all();
     hopping::all();
     journeys::all();
+    pairs::all();
     opening::all();
     damage::all();
     cubes::all();

@@ -15,15 +15,17 @@ fn board(n: u32, a: usize) -> u8
     }
 }
 
-// The link word of node a: every 31st has bad links along its spare dimensions up to 3, the others mark links whose lower-numbered end is another node.
+// The link word of node a: every 31st marks links of which it is the lower end, along its spare dimensions up to 3; of the others every 37th marks all links of which it is the upper end.
 fn marks(n: u32, nodes: usize, a: usize) -> u16
     requires { ⌜ (n ≤ 10) × (nodes ≤ 1024) × (a < nodes) ⌝ }
 {
     if (a * 3 + n as usize) % 31 == 5 {
-        ((nodes - 1 - a) % 8) as u16
-    } else {
-        a as u16
+        return ((nodes - 1 - a) % 8) as u16;
     }
+    if (a * 7 + n as usize) % 37 == 11 {
+        return a as u16;
+    }
+    0
 }
 
 // The status bytes of the pattern.
