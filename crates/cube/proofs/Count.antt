@@ -150,6 +150,11 @@ pack-not p (suc n) = omega (arith, pack-not p n, shared (p (suc n)), pow-pos n)
     shared false = omega arith
 
 -- a packed word is 0 exactly where no bit is set
+pub pack-zero : (p : ℕ → Bool) (n : ℕ) → ((i : ℕ) → i < n → p (suc i) ≡ false) → pack p n ≡ 0
+unfolding pack
+pack-zero p zero h = refl
+pack-zero p (suc n) h = ap₂ (λ (x : ℕ) (b : Bool). x + one b * 2 ^ n) (pack-zero p n (λ i l. h i (omega arith))) (h n (omega arith)) ∙ let z : 0 + 0 * 2 ^ n ≡ 0 = omega arith in z
+
 pub pack-none : (p : ℕ → Bool) (n : ℕ) → pack p n ≡ 0 → (i : ℕ) → i < n → p (suc i) ≡ false
 pack-none p n e i h = sym (bit-pack p n i h) ∙ ap (λ (x : ℕ). bit x (suc i)) e ∙ bit-zero (suc i)
 

@@ -7,14 +7,14 @@ use Prim.Native.Nat.{ℕ, zero, suc, min, _+_, _^_, _≤_, _<_}
 use native.Mathlib.Nat.{lt-of-lt-of-le}
 use native.Mathlib.Numerals.{add-one}
 use native.Mathlib.Omega.{arith}
-use borrow.Author.Tests.{lt-ltb, le-ltb, leb-true}
+use borrow.Author.Tests.{lt-ltb, le-ltb, leb-true, ltb-true}
 use lib.Bits.{bitOr}
 use lib.Dec.{leb, ltb}
-use lib.Pow.{pow-mono}
+use lib.Pow.{pow-mono, pow-pos}
 use lib.Seq.{drop-cons}
 use lib.ListN.{length, getD, drop, drop-of-length-le, List·getD-eq-default}
 use Rattle.cube.specs.Bits.{bit, flip}
-use Rattle.cube.proofs.Bits.{bit-high, bit-or}
+use Rattle.cube.proofs.Bits.{bit-zero, bit-high, bit-or}
 use Rattle.cube.proofs.Count.{flip-twice}
 use Rattle.cube.proofs.Order.{lt-or-ge}
 use Rattle.report.specs.Class.{classOf, isWorking}
@@ -84,6 +84,21 @@ unfolding narrow
 wide-of n [] k h l = absurd (omega arith)
 wide-of n (w ∷ ws) zero h l = rw (le-ltb w (2 ^ n) l)
 wide-of n (w ∷ ws) (suc k) h l = rw (wide-of n ws k (omega arith) l, and-false)
+
+-- every word of a narrow list is below 2^n
+pub narrow-each : (n : ℕ) (ws : List ℕ) → narrow n ws ≡ true → (k : ℕ) → getD ws k 0 < 2 ^ n
+unfolding narrow
+narrow-each n [] e k = pow-pos n
+narrow-each n (w ∷ ws) e zero = ltb-true w (2 ^ n) (and-eq-true-iff (ltb w (2 ^ n)) (narrow n ws) .0 e .0)
+narrow-each n (w ∷ ws) e (suc k) = narrow-each n ws (and-eq-true-iff (ltb w (2 ^ n)) (narrow n ws) .0 e .1) k
+
+-- where every word is 0, no link counts as faulty
+pub cut-none : (links : List ℕ) → narrow 0 links ≡ true → (a i : ℕ) → cut links a i ≡ false
+unfolding cut
+cut-none links e a i = ap₂ _||_ (unmarked a) (unmarked (flip a i))
+  where
+    unmarked : (b : ℕ) → bit (getD links b 0) i ≡ false
+    unmarked b = ap (λ (w : ℕ). bit w i) (let z : getD links b 0 ≡ 0 = omega (arith, narrow-each 0 links e b) in z) ∙ bit-zero i
 
 -- ---- acceptable reports
 

@@ -14,10 +14,11 @@ use Rattle.cube.specs.Count.{one, pack}
 use Rattle.cube.specs.Table.{table}
 use Rattle.cube.proofs.Order.{lt-or-ge, eq-or-ne}
 use Rattle.cube.proofs.Bits.{flip-lt, bit-zero}
-use Rattle.cube.proofs.Count.{one-le, one-eqb, bit-pack, pack-lt, pack-cong, one-shift}
+use Rattle.cube.proofs.Count.{one-le, one-eqb, bit-pack, pack-lt, pack-cong, pack-zero, one-shift}
 use Rattle.cube.proofs.Table.{length-table, getD-table, table-ext}
 use Rattle.report.specs.Health.{Cube}
-use Rattle.report.specs.Report.{works, cut, cube}
+use Rattle.report.specs.Report.{works, cut, cube, narrow}
+use Rattle.report.proofs.Report.{cut-none}
 use Rattle.vectors.specs.Safety.{registered, supported, safe, bitsOf, vector, vectors}
 use Rattle.vectors.specs.Held.{own}
 use Rattle.vectors.specs.Rounds.{upTo, after, digit, shown, Digits, faults, allFaults, masked, known}
@@ -131,6 +132,13 @@ masked-faults : (n : ℕ) (links : List ℕ) (a i : ℕ) → a < 2 ^ n → i < n
 unfolding masked allFaults faults
 masked-faults n links a i l m =
     ap (λ (w : ℕ). bit w (suc i)) (getD-table (faults n links) (2 ^ n) a l) ∙ bit-pack (cut links a) n i m
+
+-- where no word marks a link, every mask is empty
+pub faults-none : (n : ℕ) (links : List ℕ) → narrow 0 links ≡ true → replicate (2 ^ n) 0 ≡ allFaults n links
+unfolding allFaults faults
+faults-none n links e =
+    table-ext (faults n links) (2 ^ n) (replicate (2 ^ n) 0) (length-replicate (2 ^ n) 0)
+    (λ a l. getD-replicate (2 ^ n) a 0 0 l ∙ sym (pack-zero (cut links a) n (λ i m. cut-none links e a (suc i))))
 
 -- over the masks the rounds give what the report says
 pub after-known : (n : ℕ) (status links : List ℕ) → after (known n status (allFaults n links)) n ≡ after (cube n status links) n

@@ -124,6 +124,17 @@ pub fn heard(n: u32, links: &[u16], vectors: &[u16], a: Node, k: u32) -> u16
     registered_mask(n, links, vectors, a.0 as usize, k)
 }
 
+// Every word 0: vectors before the first round, masks where no link is faulty.
+fn clear(words: &mut [u16])
+    ensures { λ r. ⌜ now (words .exit) ≡ replicate (length (now (words .entry))) 0 ⌝ }
+{
+    let mut a: usize = 0;
+    while a < words.len() {
+        words[a] = 0;
+        a += 1;
+    }
+}
+
 // The faulty links of node a along dimensions 1 to n, as a mask.
 fn faults(n: u32, links: &[u16], a: usize) -> u16
     requires { ⌜ (n ≤ 10) × (a < 1024) ⌝ }
@@ -149,6 +160,18 @@ fn all_faults(n: u32, links: &[u16], masks: &mut [u16])
         masks[a] = faults(n, links, a);
         a += 1;
     }
+}
+
+// The same; most reports mark no link.
+fn gather(n: u32, links: &[u16], masks: &mut [u16])
+    requires { ⌜ (n ≤ 10) × (length (now masks) ≡ 2 ^ n) ⌝ }
+    ensures { λ r. ⌜ now (masks .exit) ≡ allFaults n (now (links .entry)) ⌝ }
+{
+    if report::narrow(0, links) {
+        clear(masks);
+        return;
+    }
+    all_faults(n, links, masks);
 }
 
 // Bit k of every vector, as a byte for each node.
@@ -271,17 +294,6 @@ fn round(n: u32, status: &[u8], masks: &[u16], bytes: &[u8], vectors: &mut [u16]
     }
 }
 
-// All vectors 0, as before the first round.
-fn clear(vectors: &mut [u16])
-    ensures { λ r. ⌜ now (vectors .exit) ≡ replicate (length (now (vectors .entry))) 0 ⌝ }
-{
-    let mut a: usize = 0;
-    while a < vectors.len() {
-        vectors[a] = 0;
-        a += 1;
-    }
-}
-
 // The rounds, one for each bit.
 fn all_rounds(n: u32, status: &[u8], masks: &[u16], bytes: &mut [u8], vectors: &mut [u16])
     requires { ⌜ (n ≤ 10) × (length (now masks) ≡ 2 ^ n) × (length (now bytes) ≡ 2 ^ n) × (length (now vectors) ≡ 2 ^ n) ⌝ }
@@ -308,7 +320,7 @@ fn by_rounds(
     requires { ⌜ (n ≤ 10) × (length (now masks) ≡ 2 ^ n) × (length (now bytes) ≡ 2 ^ n) × (length (now vectors) ≡ 2 ^ n) ⌝ }
     ensures { λ r. ⌜ now (vectors .exit) ≡ after (cube n (now (status .entry)) (now (links .entry))) n ⌝ }
 {
-    all_faults(n, links, masks);
+    gather(n, links, masks);
     all_rounds(n, status, masks, bytes, vectors);
 }
 

@@ -9,8 +9,8 @@ use Rattle.vectors.proofs.Rounds.{after-known}
 use Rattle.vectors.proofs.by_rounds.Statement.{statement}
 use Rattle.vectors.proofs.by_rounds.Tie as tie
 
-all-faults-requires : tie.Need-all-faults-requires
-all-faults-requires c κs = search needs
+gather-requires : tie.Need-gather-requires
+gather-requires c κs = search needs
 
 all-rounds-requires : tie.Need-all-rounds-requires
 all-rounds-requires c κs = search needs
@@ -28,14 +28,14 @@ returns : tie.Need-returns
 returns c =
     let a = c .before .before .before .before .before .before .before .before .before .before .before .before .before .before .before .before .before .args in
     c .before .before .before .before .all-rounds .ensures
-    ∙ ap (λ (masks : List ℕ). after (known (a .n) (now (a .status)) masks) (a .n)) (c .before .before .before .before .before .before .before .before .before .before .all-faults .ensures)
+    ∙ ap (λ (masks : List ℕ). after (known (a .n) (now (a .status)) masks) (a .n)) (c .before .before .before .before .before .before .before .before .before .before .gather .ensures)
     ∙ after-known (a .n) (now (a .status)) (now (a .links))
 
 pub by-rounds-spec : {M : Type 1} → statement M
 by-rounds-spec =
     tie.close
     (tie.spec
-    all-faults-requires
+    gather-requires
     all-rounds-requires
     same-length
     same-length-2
