@@ -5,7 +5,7 @@ use Prim.Native.Nat.{ℕ, zero, suc, _+_, _≤_, _<_}
 use native.Mathlib.Nat.{add-zero, zero-add}
 use native.Mathlib.Numerals.{add-one}
 use native.Mathlib.Omega.{arith}
-use lib.ListN.{length, getD, take, drop, set, length-append, length-drop}
+use lib.ListN.{length, getD, take, drop, set, replicate, length-append, length-drop}
 use lib.Seq.{drop-cons, drop-length, append-snoc, set-at, length-take-le, getD-take, getD-drop, ext-getD}
 use Rattle.cube.specs.Table.{from, table}
 
@@ -72,3 +72,9 @@ written-next f xs ys k v h e same =
 -- after the last store
 pub written-all : (f : ℕ → ℕ) (xs ys : List ℕ) (k : ℕ) → k ≡ length xs → ys ≡ written f xs k → ys ≡ table f (length xs)
 written-all f xs ys k h e = e ∙ rw h (ap (λ (zs : List ℕ). table f (length xs) ++ zs) (drop-length xs) ∙ append-nil _)
+
+-- a part of a list of one number
+pub take-replicate : (x m k : ℕ) → m ≤ k → take m (replicate k x) ≡ replicate m x
+take-replicate x zero k h = refl
+take-replicate x (suc m) zero h = absurd (omega arith)
+take-replicate x (suc m) (suc k) h = ap (λ (xs : List ℕ). x ∷ xs) (take-replicate x m k (omega arith))

@@ -3,19 +3,19 @@ use mathlib.Core.Path.{_≡_, refl, ap, ap₂, sym, _∙_}
 use mathlib.Core.Bool.{Bool, true, false, not, _&&_}
 use mathlib.Core.Logic.{⊎-elim}
 use mathlib.Core.List.{List}
-use Prim.Native.Nat.{ℕ, zero, suc, _+_, _*_, _%_, _^_, _≤_, _<_}
+use Prim.Native.Nat.{ℕ, zero, suc, _+_, _-_, _*_, _%_, _^_, _≤_, _<_}
 use native.Mathlib.Nat.{le-trans, le-of-eq}
 use native.Mathlib.Omega.{arith}
 use lib.Dec.{eqb}
-use lib.ListN.{length, getD, set, length-set, replicate, length-replicate, getD-replicate, List·getD-eq-default}
+use lib.ListN.{length, getD, take, set, length-set, replicate, length-replicate, getD-replicate, List·getD-eq-default}
 use lib.Seq.{getD-set-same, getD-set-other}
 use Rattle.cube.specs.Bits.{bit, flip}
 use Rattle.cube.specs.Count.{one, pack}
 use Rattle.cube.specs.Table.{table}
 use Rattle.cube.proofs.Order.{lt-or-ge, eq-or-ne}
-use Rattle.cube.proofs.Bits.{flip-lt, bit-zero}
+use Rattle.cube.proofs.Bits.{flip-lt, bit-zero, pow-shift}
 use Rattle.cube.proofs.Count.{one-le, one-eqb, bit-pack, pack-lt, pack-cong, pack-zero, one-shift}
-use Rattle.cube.proofs.Table.{length-table, getD-table, table-ext}
+use Rattle.cube.proofs.Table.{length-table, getD-table, table-ext, take-replicate}
 use Rattle.report.specs.Health.{Cube}
 use Rattle.report.specs.Report.{works, cut, cube, narrow}
 use Rattle.report.proofs.Report.{cut-none}
@@ -132,6 +132,12 @@ masked-faults : (n : ℕ) (links : List ℕ) (a i : ℕ) → a < 2 ^ n → i < n
 unfolding masked allFaults faults
 masked-faults n links a i l m =
     ap (λ (w : ℕ). bit w (suc i)) (getD-table (faults n links) (2 ^ n) a l) ∙ bit-pack (cut links a) n i m
+
+-- room for 2^n masks, as the machine lends it of a longer array
+pub room : (n k : ℕ) (xs : List ℕ) → n < 64 → 2 ^ n ≤ k → xs ≡ replicate k 0 → take (1 * 2 ^ n % 18446744073709551616 - 0) xs ≡ replicate (2 ^ n) 0
+room n k xs h l e =
+    ap₂ (λ (m : ℕ) (ys : List ℕ). take m ys) (let s : 1 * 2 ^ n % 18446744073709551616 - 0 ≡ 2 ^ n = omega (arith, pow-shift n 64 h) in s) e
+    ∙ take-replicate 0 (2 ^ n) k l
 
 -- where no word marks a link, every mask is empty
 pub faults-none : (n : ℕ) (links : List ℕ) → narrow 0 links ≡ true → replicate (2 ^ n) 0 ≡ allFaults n links

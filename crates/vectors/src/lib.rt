@@ -124,13 +124,13 @@ pub fn heard(n: u32, links: &[u16], vectors: &[u16], a: Node, k: u32) -> u16
     registered_mask(n, links, vectors, a.0 as usize, k)
 }
 
-// Every word 0: vectors before the first round, masks where no link is faulty.
-fn clear(words: &mut [u16])
-    ensures { λ r. ⌜ now (words .exit) ≡ replicate (length (now (words .entry))) 0 ⌝ }
+// All vectors 0, as before the first round.
+fn clear(vectors: &mut [u16])
+    ensures { λ r. ⌜ now (vectors .exit) ≡ replicate (length (now (vectors .entry))) 0 ⌝ }
 {
     let mut a: usize = 0;
-    while a < words.len() {
-        words[a] = 0;
+    while a < vectors.len() {
+        vectors[a] = 0;
         a += 1;
     }
 }
@@ -162,13 +162,12 @@ fn all_faults(n: u32, links: &[u16], masks: &mut [u16])
     }
 }
 
-// The same; most reports mark no link.
+// The same over empty masks; most reports mark no link.
 fn gather(n: u32, links: &[u16], masks: &mut [u16])
-    requires { ⌜ (n ≤ 10) × (length (now masks) ≡ 2 ^ n) ⌝ }
+    requires { ⌜ (n ≤ 10) × (now masks ≡ replicate (2 ^ n) 0) ⌝ }
     ensures { λ r. ⌜ now (masks .exit) ≡ allFaults n (now (links .entry)) ⌝ }
 {
     if report::narrow(0, links) {
-        clear(masks);
         return;
     }
     all_faults(n, links, masks);
@@ -317,16 +316,16 @@ fn by_rounds(
     bytes: &mut [u8],
     vectors: &mut [u16],
 )
-    requires { ⌜ (n ≤ 10) × (length (now masks) ≡ 2 ^ n) × (length (now bytes) ≡ 2 ^ n) × (length (now vectors) ≡ 2 ^ n) ⌝ }
+    requires { ⌜ (n ≤ 10) × (now masks ≡ replicate (2 ^ n) 0) × (length (now bytes) ≡ 2 ^ n) × (length (now vectors) ≡ 2 ^ n) ⌝ }
     ensures { λ r. ⌜ now (vectors .exit) ≡ after (cube n (now (status .entry)) (now (links .entry))) n ⌝ }
 {
     gather(n, links, masks);
     all_rounds(n, status, masks, bytes, vectors);
 }
 
-// Room for the masks of 1,024 boards.
+// Empty masks of 1,024 boards.
 fn room_for_masks() -> [u16; 1024]
-    ensures { λ r. ⌜ 1024 ≡ length r ⌝ }
+    ensures { λ r. ⌜ r ≡ replicate 1024 0 ⌝ }
 {
     [0; 1024]
 }

@@ -1,19 +1,23 @@
 -- `vectors::by_rounds` meets its contract: over the masks of the faulty links the rounds give what the report says.
-use mathlib.Core.Path.{_≡_, ap, sym, _∙_}
-use borrow.Author.Needs.{needs}
-use denote.Ref.{now}
+use mathlib.Core.Path.{ap, _∙_}
 use mathlib.Core.List.{List}
-use Prim.Native.Nat.{ℕ}
+use Prim.Native.Nat.{ℕ, _^_}
+use native.Mathlib.Omega.{arith}
+use borrow.Author.Needs.{needs}
+use lib.ListN.{length, length-replicate}
+use denote.Ref.{now}
 use Rattle.vectors.specs.Rounds.{after, known}
 use Rattle.vectors.proofs.Rounds.{after-known}
 use Rattle.vectors.proofs.by_rounds.Statement.{statement}
 use Rattle.vectors.proofs.by_rounds.Tie as tie
 
 gather-requires : tie.Need-gather-requires
-gather-requires c κs = search needs
+gather-requires c κs = (c .before .before .before .before .before .before .pre .0, c .before .before .before .before .before .before .pre .1)
 
 all-rounds-requires : tie.Need-all-rounds-requires
-all-rounds-requires c κs = search needs
+all-rounds-requires c κs =
+    let s = c .before .before .before .before .before .before .before .before .before .before .before .before in
+    (s .pre .0, omega (arith, c .before .before .before .before .before .gather .kept, ap length (s .pre .1) ∙ length-replicate (2 ^ (s .args .n)) 0), s .pre .2, s .pre .3)
 
 same-length : tie.Need-same-length
 same-length c = search needs
@@ -34,10 +38,4 @@ returns c =
 pub by-rounds-spec : {M : Type 1} → statement M
 by-rounds-spec =
     tie.close
-    (tie.spec
-    gather-requires
-    all-rounds-requires
-    same-length
-    same-length-2
-    same-length-3
-    returns)
+    (tie.spec gather-requires all-rounds-requires same-length same-length-2 same-length-3 returns)

@@ -1,8 +1,7 @@
 -- `vectors::gather` meets its contract: where every word is 0, so is every mask.
 use mathlib.Core.Path.{ap, sym, _∙_}
-use Prim.Native.Nat.{ℕ}
 use borrow.Author.Needs.{needs}
-use lib.ListN.{replicate}
+use lib.ListN.{length, length-replicate}
 use denote.Ref.{now}
 use Rattle.vectors.proofs.Rounds.{faults-none}
 use Rattle.vectors.proofs.gather.Statement.{statement}
@@ -11,36 +10,22 @@ use Rattle.vectors.proofs.gather.Tie as tie
 narrow-requires : tie.Need-narrow-requires
 narrow-requires c κs = search needs
 
-clear-requires : tie.Need-clear-requires
-clear-requires c κs = search needs
+returns : tie.Need-returns
+returns c =
+    let s = c .before .before .before .before in
+    s .pre .1 ∙ faults-none (s .args .n) (now (s .args .links)) (sym (c .before .narrow .ensures) ∙ c .if1 .taken)
+
+all-faults-requires : tie.Need-all-faults-requires
+all-faults-requires c κs =
+    let s = c .before .before .before .before .before in
+    (s .pre .0, ap length (s .pre .1) ∙ length-replicate _ 0)
 
 same-length : tie.Need-same-length
 same-length c = search needs
-
-returns : tie.Need-returns
-returns c =
-    let s = c .before .before .before .before .before .before .before .before in
-    c .before .before .clear .ensures
-    ∙ ap (λ (m : ℕ). replicate m 0) (s .pre .1)
-    ∙ faults-none (s .args .n) (now (s .args .links)) (sym (c .before .before .before .before .before .narrow .ensures) ∙ c .before .before .before .before .if1 .taken)
-
-all-faults-requires : tie.Need-all-faults-requires
-all-faults-requires c κs = search needs
-
-same-length-2 : tie.Need-same-length-2
-same-length-2 c = search needs
 
 returns-2 : tie.Need-returns-2
 returns-2 c = search needs
 
 pub gather-spec : {M : Type 1} → statement M
 gather-spec =
-    tie.close
-    (tie.spec
-    narrow-requires
-    clear-requires
-    same-length
-    returns
-    all-faults-requires
-    same-length-2
-    returns-2)
+    tie.close (tie.spec narrow-requires returns all-faults-requires same-length returns-2)

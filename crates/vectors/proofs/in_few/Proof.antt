@@ -1,10 +1,11 @@
 -- `vectors::in_few` meets its contract: the parts that it lends lie within its arrays.
-use mathlib.Core.Path.{_≡_, ap, sym, _∙_}
+use mathlib.Core.Path.{refl}
 use borrow.Author.Needs.{needs}
-use denote.Ref.{now}
 use Prim.Native.Nat.{_^_, _≤_}
 use native.Mathlib.Omega.{arith}
+use lib.ListN.{length-take}
 use lib.Pow.{pow-mono}
+use Rattle.vectors.proofs.Rounds.{room}
 use Rattle.vectors.proofs.in_few.Statement.{statement}
 use Rattle.vectors.proofs.in_few.Tie as tie
 
@@ -34,7 +35,9 @@ part-bytes-end : tie.Need-part-bytes-end
 part-bytes-end c = omega (arith, few (c .before .before .before .before))
 
 by-rounds-requires : tie.Need-by-rounds-requires
-by-rounds-requires c κs = search needs
+by-rounds-requires c κs =
+    let s = c .before .before .before .before .before .before in
+    (omega (arith, s .pre .0), room (s .args .n) 32 _ (omega (arith, s .pre .0)) (few s) refl, simp length-take (omega (arith, few s)), s .pre .1)
 
 same-length : tie.Need-same-length
 same-length c = search needs

@@ -1,10 +1,10 @@
 -- `vectors::in_many` meets its contract: the parts that it lends lie within its arrays.
-use mathlib.Core.Path.{_≡_, ap, sym, _∙_}
 use borrow.Author.Needs.{needs}
-use denote.Ref.{now}
 use Prim.Native.Nat.{_^_, _≤_}
 use native.Mathlib.Omega.{arith}
+use lib.ListN.{length-take}
 use lib.Pow.{pow-mono}
+use Rattle.vectors.proofs.Rounds.{room}
 use Rattle.vectors.proofs.in_many.Statement.{statement}
 use Rattle.vectors.proofs.in_many.Tie as tie
 
@@ -40,7 +40,9 @@ part-bytes-end : tie.Need-part-bytes-end
 part-bytes-end c = omega (arith, few (c .before .before .before .before .before .before))
 
 by-rounds-requires : tie.Need-by-rounds-requires
-by-rounds-requires c κs = search needs
+by-rounds-requires c κs =
+    let s = c .before .before .before .before .before .before .before .before in
+    (omega (arith, s .pre .0), room (s .args .n) 1024 _ (omega (arith, s .pre .0)) (few s) (c .before .before .before .before .room-for-masks .ensures), simp length-take (omega (arith, few s)), s .pre .1)
 
 same-length : tie.Need-same-length
 same-length c = search needs
