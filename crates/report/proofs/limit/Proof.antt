@@ -7,8 +7,6 @@ use Rattle.cube.proofs.Bits.{pow-shift}
 use Rattle.report.proofs.limit.Statement.{statement}
 use Rattle.report.proofs.limit.Tie as tie
 
--- `report::limit` meets its contract.
-
 shl-result : tie.Need-shl-result
 shl-result c = search needs
 

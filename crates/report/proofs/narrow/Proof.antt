@@ -12,8 +12,6 @@ use Rattle.report.proofs.Report.{narrow-step, narrow-end, word-limit}
 use Rattle.report.proofs.narrow.Statement.{statement}
 use Rattle.report.proofs.narrow.Tie as tie
 
--- `report::narrow` meets its contract. The loop keeps that the words are narrow exactly if those from i on are.
-
 abbrev Inv-loop : tie.InvT-loop
 Inv-loop n links top i₀ i = narrow n links ≡ narrow n (drop i links)
 

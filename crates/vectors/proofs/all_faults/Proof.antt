@@ -1,8 +1,6 @@
 -- `vectors::all_faults` meets its contract. The loop keeps that the masks below a are written.
-use mathlib.Core.Path.{_≡_, refl, ap, ap₂, sym, _∙_}
-use mathlib.Core.Bool.{Bool}
-use Prim.Native.Nat.{ℕ, suc, _+_, _-_, _*_, _≤_}
-use native.Mathlib.Numerals.{add-one}
+use mathlib.Core.Path.{_≡_, refl, ap, _∙_}
+use Prim.Native.Nat.{_-_, _≤_}
 use native.Mathlib.Omega.{arith}
 use borrow.Author.Needs.{needs}
 use denote.Ref.{now}
@@ -13,8 +11,6 @@ use Rattle.cube.proofs.Table.{written, written-none, written-next, written-all}
 use Rattle.vectors.specs.Rounds.{faults, allFaults}
 use Rattle.vectors.proofs.all_faults.Statement.{statement}
 use Rattle.vectors.proofs.all_faults.Tie as tie
-
--- `vectors::all_faults` meets its contract. The loop keeps that the masks below a are written.
 
 abbrev Inv-loop : tie.InvT-loop
 Inv-loop n links masks₀ a₀ masks a = (a ≤ length masks₀) × (length masks ≡ length masks₀) × (masks ≡ written (faults n links) masks₀ a)

@@ -1,20 +1,15 @@
 -- `vectors::faults` meets its contract. The loop keeps that the mask is that of dimensions 1 to i.
-use mathlib.Core.Path.{_≡_, refl, ap, ap₂, sym, _∙_}
-use mathlib.Core.Bool.{Bool}
-use Prim.Native.Nat.{ℕ, suc, _+_, _-_, _*_, _≤_}
-use native.Mathlib.Numerals.{add-one}
+use mathlib.Core.Path.{_≡_, ap, _∙_}
+use Prim.Native.Nat.{_-_, _≤_}
 use native.Mathlib.Omega.{arith}
 use borrow.Author.Needs.{needs}
 use denote.Ref.{now}
-use Prim.Native.Nat.{ℕ, suc, _+_, _-_, _≤_}
-use Rattle.cube.specs.Count.{one, pack}
+use Rattle.cube.specs.Count.{pack}
 use Rattle.cube.proofs.Count.{pack-more, pack-fits}
 use Rattle.report.specs.Report.{cut}
 use Rattle.vectors.specs.Rounds.{faults}
 use Rattle.vectors.proofs.faults.Statement.{statement}
 use Rattle.vectors.proofs.faults.Tie as tie
-
--- `vectors::faults` meets its contract. The loop keeps that the mask is that of dimensions 1 to i.
 
 abbrev Inv-loop : tie.InvT-loop
 Inv-loop n links a mask₀ i₀ mask i = (i ≤ n) × (mask ≡ pack (cut links a) i)

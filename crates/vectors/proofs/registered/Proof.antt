@@ -1,7 +1,6 @@
 -- `vectors::registered` meets its contract.
-use mathlib.Core.Path.{_≡_, refl, ap, ap₂, sym, _∙_}
-use mathlib.Core.Bool.{Bool}
-use Prim.Native.Nat.{ℕ, suc, _+_, _-_, _*_, _≤_}
+use mathlib.Core.Path.{_≡_, ap, _∙_}
+use Prim.Native.Nat.{ℕ, suc, _-_, _*_}
 use native.Mathlib.Numerals.{add-one}
 use native.Mathlib.Omega.{arith}
 use borrow.Author.Needs.{needs}
@@ -14,7 +13,6 @@ use Rattle.report.specs.Report.{cut}
 use Rattle.vectors.specs.Safety.{registered}
 use Rattle.vectors.specs.Held.{held, own}
 use Rattle.vectors.proofs.Safety.{registered-digit}
-use Prim.Native.Nat.{ℕ, suc, _+_, _-_, _≤_}
 use Rattle.vectors.proofs.registered.Statement.{statement}
 use Rattle.vectors.proofs.registered.Tie as tie
 
@@ -27,8 +25,6 @@ digit c =
     registered-digit (cut (now (a .links))) (own (now (a .vectors)) (a .k)) (a .a) (suc (a .i)) _ _
     (c .before .before .faulty .ensures .0 ∙ ap (λ (x : ℕ). one (cut (now (a .links)) (a .a) x)) (add-one (a .i)))
     (c .bit-of .ensures .0 ∙ ap (λ (x : ℕ). one (held (getD (now (a .vectors)) x 0) (a .k))) (c .before .before .before .across .ensures))
-
--- `vectors::registered` meets its contract.
 
 across-requires : tie.Need-across-requires
 across-requires c κs = search needs

@@ -1,8 +1,6 @@
 -- `vectors::round` meets its contract. The loop keeps that it is in the midst of round k at board a.
-use mathlib.Core.Path.{_≡_, refl, ap, ap₂, sym, _∙_}
-use mathlib.Core.Bool.{Bool}
-use Prim.Native.Nat.{ℕ, suc, _+_, _-_, _*_, _%_, _^_, _≤_, _<_}
-use native.Mathlib.Numerals.{add-one}
+use mathlib.Core.Path.{_≡_, refl, ap, _∙_}
+use Prim.Native.Nat.{suc, _+_, _-_, _*_, _%_, _^_, _≤_, _<_}
 use native.Mathlib.Omega.{arith}
 use borrow.Author.Needs.{needs}
 use denote.Ref.{now}
@@ -10,9 +8,8 @@ use native.Mathlib.Nat.{le-trans, le-of-eq, lt-of-lt-of-le}
 use lib.ListN.{length, getD, length-set}
 use lib.Pow.{pow-mono}
 use Rattle.cube.specs.Count.{one}
-use Rattle.cube.specs.Table.{table}
 use Rattle.cube.proofs.Table.{length-table}
-use Rattle.vectors.specs.Rounds.{upTo, digit, Digits, known}
+use Rattle.vectors.specs.Rounds.{upTo, digit, known}
 use Rattle.vectors.proofs.Rounds.{Midst, midst-start, midst-end, midst-step, midst-word, upTo-lt, digits-of, shown-next}
 use Rattle.vectors.proofs.round.Statement.{statement}
 use Rattle.vectors.proofs.round.Tie as tie

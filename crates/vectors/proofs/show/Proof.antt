@@ -1,23 +1,16 @@
 -- `vectors::show` meets its contract. The loop keeps that the bytes below a show their bits.
-use mathlib.Core.Path.{_≡_, refl, ap, ap₂, sym, _∙_}
-use mathlib.Core.Bool.{Bool}
-use Prim.Native.Nat.{ℕ, suc, _+_, _-_, _*_, _≤_}
-use native.Mathlib.Numerals.{add-one}
+use mathlib.Core.Path.{_≡_, refl, ap, _∙_}
+use Prim.Native.Nat.{_-_, _≤_}
 use native.Mathlib.Omega.{arith}
 use borrow.Author.Needs.{needs}
 use denote.Ref.{now}
-use native.Mathlib.Nat.{lt-of-le-of-lt}
 use Rattle.cube.proofs.Table.{written, written-none, written-next, written-all}
 use Rattle.vectors.specs.Held.{own}
-use Prim.Native.Nat.{ℕ, suc, _+_, _-_, _≤_}
 use lib.ListN.{length, length-set}
 use Rattle.cube.specs.Table.{table}
-use Rattle.cube.proofs.Table.{written, written-none, written-next, length-written}
 use Rattle.vectors.specs.Rounds.{digit}
 use Rattle.vectors.proofs.show.Statement.{statement}
 use Rattle.vectors.proofs.show.Tie as tie
-
--- `vectors::show` meets its contract. The loop keeps that the bytes below a show their bits.
 
 abbrev Inv-loop : tie.InvT-loop
 Inv-loop vectors bytes₀ k a₀ bytes a = (a ≤ length bytes₀) × (length bytes ≡ length bytes₀) × (bytes ≡ written (digit vectors k) bytes₀ a)
