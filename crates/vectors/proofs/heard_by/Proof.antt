@@ -1,6 +1,6 @@
 -- `vectors::heard_by` meets its contract: an empty mask is 0, and the largest cabinet has ten dimensions.
 use mathlib.Core.Path.{ap, ap₂, sym, _∙_}
-use Prim.Native.Nat.{ℕ, _-_, _^_}
+use Prim.Native.Nat.{ℕ, _^_}
 use native.Mathlib.Omega.{arith}
 use borrow.Author.Needs.{needs}
 use denote.Ref.{now}

@@ -1,7 +1,7 @@
 -- `vectors::next_bit` meets its contract: its tests are those of the recurrence.
 use mathlib.Core.Path.{ap, ap₂, sym, _∙_}
 use mathlib.Core.Bool.{Bool, _&&_}
-use Prim.Native.Nat.{suc, _-_}
+use Prim.Native.Nat.{suc}
 use native.Mathlib.Nat.{le-trans, le-of-eq, lt-of-lt-of-le}
 use native.Mathlib.Omega.{arith}
 use borrow.Author.Needs.{needs}
