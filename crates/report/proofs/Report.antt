@@ -8,42 +8,41 @@ use native.Mathlib.Nat.{lt-of-lt-of-le}
 use native.Mathlib.Numerals.{add-one}
 use native.Mathlib.Omega.{arith}
 use borrow.Author.Tests.{lt-ltb, le-ltb, leb-true, ltb-true}
-use lib.Bits.{bitOr}
+use lib.Bits.{bitOr, or-lt}
 use lib.Dec.{leb, ltb}
 use lib.Pow.{pow-mono, pow-pos}
 use lib.Seq.{drop-cons}
 use lib.ListN.{length, getD, drop, drop-of-length-le, List·getD-eq-default}
 use Rattle.cube.specs.Bits.{bit, flip}
-use Rattle.cube.proofs.Bits.{bit-zero, bit-high, bit-or}
-use Rattle.cube.proofs.Count.{flip-twice}
+use Rattle.cube.specs.Count.{pack}
+use Rattle.cube.proofs.Bits.{bit-zero, bit-or}
+use Rattle.cube.proofs.Count.{pack-own, pack-cong, bit-pack, flip-twice}
 use Rattle.cube.proofs.Order.{lt-or-ge}
 use Rattle.report.specs.Class.{classOf, isWorking}
-use Rattle.report.specs.Report.{works, cut, SeenFromBothEnds, narrow, dimension}
+use Rattle.report.specs.Report.{works, joint, cut, SeenFromBothEnds, narrow, dimension}
 
 -- a node past the end is not working
 pub works-past : (status : List ℕ) (a : ℕ) → length status ≤ a → works status a ≡ false
 unfolding works classOf
 works-past status a h = ap (λ (b : ℕ). isWorking (classOf b)) (List·getD-eq-default status 0 h)
 
--- there is no link along dimension 0
-pub cut-zero : (links : List ℕ) (a i : ℕ) → i < 1 → cut links a i ≡ false
-unfolding cut bit
-cut-zero links a zero h = refl
-cut-zero links a (suc i) h = absurd (omega arith)
+-- ---- links
 
--- a word of 16 bits marks no link above dimension 16
-pub cut-wide : (links : List ℕ) (a i : ℕ) → ((b : ℕ) → getD links b 0 < 2 ^ 16) → 16 < i → cut links a i ≡ false
-unfolding cut
-cut-wide links a i h l = ap₂ _||_ (bit-high (getD links a 0) 16 i (h a) l) (bit-high (getD links (flip a i) 0) 16 i (h (flip a i)) l)
+-- two words of 16 bits taken together
+pub joint-word : (own other : ℕ) → own < 2 ^ 16 → other < 2 ^ 16 → bitOr own other ≡ pack (joint own other) 16
+unfolding joint
+joint-word own other h l =
+    sym (pack-own (bitOr own other) 16 (or-lt 16 own other h l))
+    ∙ pack-cong (bit (bitOr own other)) (joint own other) 16 (λ i m. bit-or own other (suc i))
 
--- the words of both ends in one
-pub cut-word : (links : List ℕ) (a i : ℕ) → bit (bitOr (getD links a 0) (getD links (flip a i) 0)) i ≡ cut links a i
+-- whether a link counts as faulty is read off the words of its ends taken together
+pub cut-joint : (links : List ℕ) (a i : ℕ) → i < 16 → bit (pack (joint (getD links a 0) (getD links (flip a (suc i)) 0)) 16) (suc i) ≡ cut links a (suc i)
 unfolding cut
-cut-word links a i = bit-or (getD links a 0) (getD links (flip a i) 0) i
+cut-joint links a i h = bit-pack (joint (getD links a 0) (getD links (flip a (suc i)) 0)) 16 i h
 
 -- a link is faulty seen from one end exactly when it is seen from the other
 pub cut-other-end : SeenFromBothEnds
-unfolding cut
+unfolding cut joint
 cut-other-end links a i =
     ap (λ (b : ℕ). bit (getD links (flip a i) 0) i || bit (getD links b 0) i) (flip-twice a i) ∙ or-comm (bit (getD links (flip a i) 0) i) (bit (getD links a 0) i)
 
@@ -94,7 +93,7 @@ narrow-each n (w ∷ ws) e (suc k) = narrow-each n ws (and-eq-true-iff (ltb w (2
 
 -- where every word is 0, no link counts as faulty
 pub cut-none : (links : List ℕ) → narrow 0 links ≡ true → (a i : ℕ) → cut links a i ≡ false
-unfolding cut
+unfolding cut joint
 cut-none links e a i = ap₂ _||_ (unmarked a) (unmarked (flip a i))
   where
     unmarked : (b : ℕ) → bit (getD links b 0) i ≡ false

@@ -14,10 +14,15 @@ unfoldable pub works : List ℕ → ℕ → Bool
 unfolding classOf
 works status a = isWorking (classOf (getD status a 0))
 
+-- the words of the two ends of a link along dimension i, taken together: one end's word is enough
+unfoldable pub joint : ℕ → ℕ → ℕ → Bool
+unfolding bit
+joint own other i = bit own i || bit other i
+
 -- the link of a along dimension i counts as faulty: the word of either end marks it
 unfoldable pub cut : List ℕ → ℕ → ℕ → Bool
-unfolding bit flip
-cut links a i = bit (getD links a 0) i || bit (getD links (flip a i) 0) i
+unfolding joint flip
+cut links a i = joint (getD links a 0) (getD links (flip a i) 0) i
 
 -- a link is faulty seen from one end exactly when it is seen from the other
 abbrev pub SeenFromBothEnds : Type 0

@@ -1,13 +1,12 @@
 // What a cabinet report means: the class of a status byte, which boards work, which links count as faulty.
 use cube::Node;
 ghost use mathlib.Core.Path.{_≡_};
-ghost use Prim.Native.Nat.{min, _^_, _≤_};
+ghost use Prim.Native.Nat.{min, _^_};
 ghost use Rattle.report.specs.Class.{classOf, isWorking};
 ghost use mathlib.Core.Bool.{_&&_};
 ghost use lib.Dec.{eqb};
-ghost use lib.ListN.{getD};
-ghost use Rattle.cube.specs.Count.{one};
-ghost use Rattle.report.specs.Report.{works, cut, SeenFromBothEnds, narrow, dimension, within};
+ghost use Rattle.cube.specs.Count.{pack};
+ghost use Rattle.report.specs.Report.{works, joint, SeenFromBothEnds, narrow, dimension, within};
 
 // The class of a board by its status byte.
 pub enum Class {
@@ -57,31 +56,11 @@ pub fn works(status: &[u8], a: Node) -> bool
     class_of(status[at]).is_working()
 }
 
-// The link word of node a; a node past the end marks nothing.
-fn word_of(links: &[u16], a: u16) -> u16
-    ensures { λ r. ⌜ r ≡ getD (now (links .entry)) a 0 ⌝ }
+// The words of a link's two ends taken together, as the mask of the dimensions that either marks.
+pub fn joint(own: u16, other: u16) -> u16
+    ensures { λ r. ⌜ r ≡ pack (joint own other) 16 ⌝ }
 {
-    let at = a as usize;
-    if links.len() <= at {
-        return 0;
-    }
-    links[at]
-}
-
-// Whether the link of a along dimension i counts as faulty, as 1 or 0: the word of either end marks it.
-pub fn faulty(links: &[u16], a: Node, i: u32) -> u32
-    ensures digit { λ r. ⌜ r ≡ one (cut (now (links .entry)) (a .0) i) ⌝ }
-    ensures small { λ r. ⌜ r ≤ 1 ⌝ }
-{
-    if i < 1 {
-        return 0;
-    }
-    if 16 < i {
-        return 0;
-    }
-    let bit: u16 = 1 << (i - 1);
-    let word = word_of(links, a.0) | word_of(links, a.0 ^ bit);
-    ((word >> (i - 1)) % 2) as u32
+    own | other
 }
 
 // A link is faulty seen from one end exactly when it is seen from the other.

@@ -76,15 +76,25 @@ fn bit_of(word: u16, k: u32) -> u32
     ((word as u32 * 2 + 1) >> k) % 2
 }
 
+// Whether the link of a along dimension i + 1 counts as faulty, as 1 or 0.
+fn faulty(links: &[u16], a: usize, i: u32) -> u32
+    requires { ⌜ (i < 16) × (a < length (now links)) × (flip a (suc i) < length (now links)) ⌝ }
+    ensures digit { λ r. ⌜ r ≡ one (cut (now (links .entry)) a (suc i)) ⌝ }
+    ensures small { λ r. ⌜ r ≤ 1 ⌝ }
+{
+    let b = across(a, i);
+    let word = report::joint(links[a], links[b]);
+    marked(word, i)
+}
+
 // Bit k of a's neighbour along dimension i + 1, as registered at a, as 1 or 0.
 fn registered(links: &[u16], vectors: &[u16], a: usize, i: u32, k: u32) -> u32
-    requires { ⌜ (i < 16) × (k ≤ 16) × (a < 1024) × (flip a (suc i) < length (now vectors)) ⌝ }
+    requires { ⌜ (i < 16) × (k ≤ 16) × (a < length (now links)) × (flip a (suc i) < length (now links)) × (flip a (suc i) < length (now vectors)) ⌝ }
     ensures digit { λ r. ⌜ r ≡ one (registered (cut (now (links .entry))) (own (now (vectors .entry)) k) a (suc i)) ⌝ }
     ensures small { λ r. ⌜ r ≤ 1 ⌝ }
 {
     let b = across(a, i);
-    let fault = report::faulty(links, Node(a as u16), i + 1);
-    (1 - fault) * bit_of(vectors[b], k)
+    (1 - faulty(links, a, i)) * bit_of(vectors[b], k)
 }
 
 // The mask of the dimensions 1 to n along which bit k is registered at a.
@@ -137,13 +147,13 @@ fn clear(vectors: &mut [u16])
 
 // The faulty links of node a along dimensions 1 to n, as a mask.
 fn faults(n: u32, links: &[u16], a: usize) -> u16
-    requires { ⌜ (n ≤ 10) × (a < 1024) ⌝ }
+    requires { ⌜ (n ≤ 10) × (a < 2 ^ n) × (length (now links) ≡ 2 ^ n) ⌝ }
     ensures { λ r. ⌜ r ≡ faults n (now (links .entry)) a ⌝ }
 {
     let mut mask: u16 = 0;
     let mut i: u32 = 0;
     while i < n {
-        let bit = report::faulty(links, Node(a as u16), i + 1) as u16;
+        let bit = faulty(links, a, i) as u16;
         mask = mask + (bit << i);
         i += 1;
     }
@@ -152,7 +162,7 @@ fn faults(n: u32, links: &[u16], a: usize) -> u16
 
 // The faulty links of every node.
 fn all_faults(n: u32, links: &[u16], masks: &mut [u16])
-    requires { ⌜ (n ≤ 10) × (length (now masks) ≡ 2 ^ n) ⌝ }
+    requires { ⌜ (n ≤ 10) × (length (now masks) ≡ 2 ^ n) × (length (now links) ≡ 2 ^ n) ⌝ }
     ensures { λ r. ⌜ now (masks .exit) ≡ allFaults n (now (links .entry)) ⌝ }
 {
     let mut a: usize = 0;
@@ -164,7 +174,7 @@ fn all_faults(n: u32, links: &[u16], masks: &mut [u16])
 
 // The same over empty masks; most reports mark no link.
 fn gather(n: u32, links: &[u16], masks: &mut [u16])
-    requires { ⌜ (n ≤ 10) × (now masks ≡ replicate (2 ^ n) 0) ⌝ }
+    requires { ⌜ (n ≤ 10) × (now masks ≡ replicate (2 ^ n) 0) × (length (now links) ≡ 2 ^ n) ⌝ }
     ensures { λ r. ⌜ now (masks .exit) ≡ allFaults n (now (links .entry)) ⌝ }
 {
     if report::narrow(0, links) {
@@ -316,7 +326,7 @@ fn by_rounds(
     bytes: &mut [u8],
     vectors: &mut [u16],
 )
-    requires { ⌜ (n ≤ 10) × (now masks ≡ replicate (2 ^ n) 0) × (length (now bytes) ≡ 2 ^ n) × (length (now vectors) ≡ 2 ^ n) ⌝ }
+    requires { ⌜ (n ≤ 10) × (now masks ≡ replicate (2 ^ n) 0) × (length (now bytes) ≡ 2 ^ n) × (length (now vectors) ≡ 2 ^ n) × (length (now links) ≡ 2 ^ n) ⌝ }
     ensures { λ r. ⌜ now (vectors .exit) ≡ after (cube n (now (status .entry)) (now (links .entry))) n ⌝ }
 {
     gather(n, links, masks);
@@ -339,7 +349,7 @@ fn room_for_bytes() -> [u8; 1024]
 
 // With room for 32 boards.
 fn in_few(n: u32, status: &[u8], links: &[u16], vectors: &mut [u16])
-    requires { ⌜ (n ≤ 5) × (length (now vectors) ≡ 2 ^ n) ⌝ }
+    requires { ⌜ (n ≤ 5) × (length (now vectors) ≡ 2 ^ n) × (length (now links) ≡ 2 ^ n) ⌝ }
     ensures { λ r. ⌜ now (vectors .exit) ≡ after (cube n (now (status .entry)) (now (links .entry))) n ⌝ }
 {
     let nodes: usize = 1 << n;
@@ -357,7 +367,7 @@ fn in_few(n: u32, status: &[u8], links: &[u16], vectors: &mut [u16])
 
 // With room for 1,024 boards.
 fn in_many(n: u32, status: &[u8], links: &[u16], vectors: &mut [u16])
-    requires { ⌜ (n ≤ 10) × (length (now vectors) ≡ 2 ^ n) ⌝ }
+    requires { ⌜ (n ≤ 10) × (length (now vectors) ≡ 2 ^ n) × (length (now links) ≡ 2 ^ n) ⌝ }
     ensures { λ r. ⌜ now (vectors .exit) ≡ after (cube n (now (status .entry)) (now (links .entry))) n ⌝ }
 {
     let nodes: usize = 1 << n;
@@ -375,7 +385,7 @@ fn in_many(n: u32, status: &[u8], links: &[u16], vectors: &mut [u16])
 
 // All the vectors, in as much room as they take.
 fn write_vectors(n: u32, status: &[u8], links: &[u16], vectors: &mut [u16])
-    requires { ⌜ (n ≤ 10) × (length (now vectors) ≡ 2 ^ n) ⌝ }
+    requires { ⌜ (n ≤ 10) × (length (now vectors) ≡ 2 ^ n) × (length (now links) ≡ 2 ^ n) ⌝ }
     ensures { λ r. ⌜ now (vectors .exit) ≡ after (cube n (now (status .entry)) (now (links .entry))) n ⌝ }
 {
     if n <= 5 {

@@ -5,7 +5,6 @@ use native.Mathlib.Omega.{arith}
 use borrow.Author.Needs.{needs}
 use denote.Ref.{now}
 use lib.ListN.{length, length-set}
-use lib.Pow.{pow-mono}
 use Rattle.cube.specs.Table.{table}
 use Rattle.cube.proofs.Table.{written, written-none, written-next, written-all}
 use Rattle.vectors.specs.Rounds.{faults, allFaults}
@@ -24,7 +23,7 @@ loop-holds c = (omega arith, refl, written-none _ _)
 faults-requires : tie.Need-faults-requires Inv-loop μ-loop
 faults-requires c κs =
     let s = c .before .before .before .before in
-    (s .pre .0, omega (arith, s .pre .1, pow-mono {i = s .args .n} {j = 10} (s .pre .0)))
+    (s .pre .0, omega (arith, s .pre .1), s .pre .2)
 
 mul-masks : tie.Need-mul-masks Inv-loop μ-loop
 mul-masks c = search needs

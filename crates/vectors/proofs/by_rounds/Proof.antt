@@ -12,7 +12,7 @@ use Rattle.vectors.proofs.by_rounds.Statement.{statement}
 use Rattle.vectors.proofs.by_rounds.Tie as tie
 
 gather-requires : tie.Need-gather-requires
-gather-requires c κs = (c .before .before .before .before .before .before .pre .0, c .before .before .before .before .before .before .pre .1)
+gather-requires c κs = (c .before .before .before .before .before .before .pre .0, c .before .before .before .before .before .before .pre .1, c .before .before .before .before .before .before .pre .4)
 
 all-rounds-requires : tie.Need-all-rounds-requires
 all-rounds-requires c κs =

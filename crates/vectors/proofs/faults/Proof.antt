@@ -1,10 +1,12 @@
 -- `vectors::faults` meets its contract. The loop keeps that the mask is that of dimensions 1 to i.
-use mathlib.Core.Path.{_≡_, ap, _∙_}
-use Prim.Native.Nat.{_-_, _≤_}
+use mathlib.Core.Path.{_≡_, ap, sym, _∙_}
+use Prim.Native.Nat.{ℕ, suc, _-_, _≤_}
+use native.Mathlib.Numerals.{add-one}
 use native.Mathlib.Omega.{arith}
 use borrow.Author.Needs.{needs}
 use denote.Ref.{now}
-use Rattle.cube.specs.Count.{pack}
+use Rattle.cube.specs.Count.{one, pack}
+use Rattle.cube.proofs.Bits.{flip-lt}
 use Rattle.cube.proofs.Count.{pack-more, pack-fits}
 use Rattle.report.specs.Report.{cut}
 use Rattle.vectors.specs.Rounds.{faults}
@@ -21,20 +23,17 @@ loop-holds : tie.Need-loop-holds Inv-loop μ-loop
 unfolding pack
 loop-holds c = search needs
 
-cast-mask : tie.Need-cast-mask Inv-loop μ-loop
-cast-mask c = search needs
-
-add-faulty : tie.Need-add-faulty Inv-loop μ-loop
-add-faulty c = search needs
-
 faulty-requires : tie.Need-faulty-requires Inv-loop μ-loop
-faulty-requires c κs = search needs
+faulty-requires c κs =
+    let s = c .before .before .before in
+    let p = s .pre in
+    (omega arith, rw (p .2) (p .1), rw (p .2) (flip-lt (s .args .n) (s .args .a) (suc (c .before .loop .i)) (p .1) (c .loop-test .taken)))
 
 cast-bit : tie.Need-cast-bit Inv-loop μ-loop
 cast-bit c = omega (arith, c .faulty .ensures .1)
 
-cast-mask-2 : tie.Need-cast-mask-2 Inv-loop μ-loop
-cast-mask-2 c = search needs
+cast-mask : tie.Need-cast-mask Inv-loop μ-loop
+cast-mask c = search needs
 
 shl-mask : tie.Need-shl-mask Inv-loop μ-loop
 shl-mask c = search needs
@@ -42,7 +41,8 @@ shl-mask c = search needs
 add-mask : tie.Need-add-mask Inv-loop μ-loop
 add-mask c =
     let a = c .before .before .before .before .args in
-    record { fits = rw (c .before .before .loop .inv .1) (pack-fits (cut (now (a .links)) (a .a)) (c .before .before .loop .i) 16 (c .faulty .result) (omega arith) (c .faulty .ensures .0)) }
+    let i = c .before .before .loop .i in
+    record { fits = rw (c .before .before .loop .inv .1) (pack-fits (cut (now (a .links)) (a .a)) i 16 (c .faulty .result) (omega arith) (c .faulty .ensures .0 ∙ ap (λ (x : ℕ). one (cut (now (a .links)) (a .a) x)) (sym (add-one i)))) }
 
 add-i : tie.Need-add-i Inv-loop μ-loop
 add-i c = search needs
@@ -53,7 +53,8 @@ loop-less c = search needs
 loop-again : tie.Need-loop-again Inv-loop μ-loop
 loop-again c =
     let a = c .before .before .before .before .args in
-    (omega arith, rw (c .before .before .loop .inv .1) (pack-more (cut (now (a .links)) (a .a)) (c .before .before .loop .i) 16 (c .faulty .result) (omega arith) (c .faulty .ensures .0)))
+    let i = c .before .before .loop .i in
+    (omega arith, rw (c .before .before .loop .inv .1) (pack-more (cut (now (a .links)) (a .a)) i 16 (c .faulty .result) (omega arith) (c .faulty .ensures .0 ∙ ap (λ (x : ℕ). one (cut (now (a .links)) (a .a) x)) (sym (add-one i)))))
 
 returns : tie.Need-returns Inv-loop μ-loop
 unfolding faults
@@ -69,11 +70,9 @@ faults-spec =
     Inv-loop
     μ-loop
     loop-holds
-    cast-mask
-    add-faulty
     faulty-requires
     cast-bit
-    cast-mask-2
+    cast-mask
     shl-mask
     add-mask
     add-i

@@ -18,7 +18,7 @@ returns c =
 all-faults-requires : tie.Need-all-faults-requires
 all-faults-requires c κs =
     let s = c .before .before .before .before .before in
-    (s .pre .0, ap length (s .pre .1) ∙ length-replicate _ 0)
+    (s .pre .0, ap length (s .pre .1) ∙ length-replicate _ 0, s .pre .2)
 
 same-length : tie.Need-same-length
 same-length c = search needs

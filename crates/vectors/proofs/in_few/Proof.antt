@@ -37,7 +37,7 @@ part-bytes-end c = omega (arith, few (c .before .before .before .before))
 by-rounds-requires : tie.Need-by-rounds-requires
 by-rounds-requires c κs =
     let s = c .before .before .before .before .before .before in
-    (omega (arith, s .pre .0), room (s .args .n) 32 _ (omega (arith, s .pre .0)) (few s) refl, simp length-take (omega (arith, few s)), s .pre .1)
+    (omega (arith, s .pre .0), room (s .args .n) 32 _ (omega (arith, s .pre .0)) (few s) refl, simp length-take (omega (arith, few s)), s .pre .1, s .pre .2)
 
 same-length : tie.Need-same-length
 same-length c = search needs

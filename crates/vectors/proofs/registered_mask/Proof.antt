@@ -4,7 +4,6 @@ use Prim.Native.Nat.{ℕ, suc, _-_, _≤_}
 use native.Mathlib.Numerals.{add-one}
 use native.Mathlib.Omega.{arith}
 use borrow.Author.Needs.{needs}
-use lib.Pow.{pow-mono}
 use denote.Ref.{now}
 use Rattle.cube.specs.Count.{one, pack}
 use Rattle.cube.proofs.Bits.{flip-lt}
@@ -29,7 +28,7 @@ registered-requires : tie.Need-registered-requires Inv-loop μ-loop
 registered-requires c κs =
     let s = c .before .before .before .before in
     let p = s .pre in
-    (omega arith, p .1, omega (arith, p .2, pow-mono {i = s .args .n} {j = 10} (p .0)), rw (p .4) (flip-lt (s .args .n) (s .args .a) (suc (c .before .loop .i)) (p .2) (c .loop-test .taken)))
+    (omega arith, p .1, rw (p .3) (p .2), rw (p .3) (flip-lt (s .args .n) (s .args .a) (suc (c .before .loop .i)) (p .2) (c .loop-test .taken)), rw (p .4) (flip-lt (s .args .n) (s .args .a) (suc (c .before .loop .i)) (p .2) (c .loop-test .taken)))
 
 cast-bit : tie.Need-cast-bit Inv-loop μ-loop
 cast-bit c = omega (arith, c .registered .ensures .1)

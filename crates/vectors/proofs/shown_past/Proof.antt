@@ -1,26 +1,17 @@
 -- `vectors::shown_past` meets its contract.
-use mathlib.Core.Path.{_≡_, ap, _∙_}
-use Prim.Native.Nat.{suc, _-_, _*_}
+use mathlib.Core.Path.{ap, _∙_}
+use Prim.Native.Nat.{suc, _-_}
 use native.Mathlib.Omega.{arith}
 use borrow.Author.Needs.{needs}
 use denote.Ref.{now}
 use native.Mathlib.Nat.{lt-of-le-of-lt}
 use Rattle.cube.specs.Count.{one}
 use Rattle.cube.proofs.Count.{unless-le}
-use Rattle.vectors.specs.Safety.{registered}
 use Rattle.vectors.specs.Rounds.{shown, masked}
 use Rattle.vectors.proofs.Safety.{registered-digit}
 use Rattle.vectors.proofs.Rounds.{registered-all}
 use Rattle.vectors.proofs.shown_past.Statement.{statement}
 use Rattle.vectors.proofs.shown_past.Tie as tie
-
--- the product is the registered bit
-digit : (c : tie.After-shown)
-    → (1 - c .before .marked .result) * c .shown .result ≡ one (registered (masked (c .before .before .before .args .mask)) (shown (now (c .before .before .before .args .bytes))) (c .before .before .before .args .a) (suc (c .before .before .before .args .i)))
-unfolding masked
-digit c =
-    let a = c .before .before .before .args in
-    registered-digit (masked (a .mask)) (shown (now (a .bytes))) (a .a) (suc (a .i)) _ _ (c .before .marked .ensures .0) (c .shown .ensures .0 ∙ ap one (registered-all (shown (now (a .bytes))) (a .a) (suc (a .i))))
 
 marked-requires : tie.Need-marked-requires
 marked-requires c κs = search needs
@@ -35,7 +26,12 @@ mul-result : tie.Need-mul-result
 mul-result c = record { fits = lt-of-le-of-lt (unless-le _ _ (c .shown .ensures .1)) (omega arith) }
 
 returns : tie.Need-returns
-returns c = (digit c, unless-le _ _ (c .shown .ensures .1))
+unfolding masked
+returns c =
+    let a = c .before .before .before .args in (
+      registered-digit (masked (a .mask)) (shown (now (a .bytes))) (a .a) (suc (a .i)) _ _ (c .before .marked .ensures .0) (c .shown .ensures .0 ∙ ap one (registered-all (shown (now (a .bytes))) (a .a) (suc (a .i)))),
+      unless-le _ _ (c .shown .ensures .1),
+    )
 
 pub shown-past-spec : {M : Type 1} → statement M
 shown-past-spec = tie.close (tie.spec marked-requires sub-result shown-requires mul-result returns)
