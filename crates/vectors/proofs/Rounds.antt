@@ -120,6 +120,11 @@ shown-next C k vs bytes ev eb h a l =
     same : (b : ℕ) → b < 2 ^ (C .dim) → shown bytes b ≡ safe C k b
     same b m = ap (λ (xs : List ℕ). shown xs b) eb ∙ shown-of vs k (2 ^ (C .dim)) b m ∙ ap (λ (xs : List ℕ). own xs k b) ev ∙ after-own C k b m
 
+-- before the first round every byte is 1
+pub digits-first : (vs : List ℕ) (m : ℕ) → replicate m 1 ≡ table (digit vs 0) m
+unfolding digit own
+digits-first vs m = table-ext (digit vs 0) m (replicate m 1) (length-replicate m 1) (λ i l. getD-replicate m i 1 0 l)
+
 -- ---- the masks of faulty links
 
 -- with an empty mask every neighbour is registered with the bit that it has
@@ -133,11 +138,11 @@ unfolding masked allFaults faults
 masked-faults n links a i l m =
     ap (λ (w : ℕ). bit w (suc i)) (getD-table (faults n links) (2 ^ n) a l) ∙ bit-pack (cut links a) n i m
 
--- room for 2^n masks, as the machine lends it of a longer array
-pub room : (n k : ℕ) (xs : List ℕ) → n < 64 → 2 ^ n ≤ k → xs ≡ replicate k 0 → take (1 * 2 ^ n % 18446744073709551616 - 0) xs ≡ replicate (2 ^ n) 0
-room n k xs h l e =
+-- room for 2^n nodes, as the machine lends it of a longer array
+pub room : (x n k : ℕ) (xs : List ℕ) → n < 64 → 2 ^ n ≤ k → xs ≡ replicate k x → take (1 * 2 ^ n % 18446744073709551616 - 0) xs ≡ replicate (2 ^ n) x
+room x n k xs h l e =
     ap₂ (λ (m : ℕ) (ys : List ℕ). take m ys) (let s : 1 * 2 ^ n % 18446744073709551616 - 0 ≡ 2 ^ n = omega (arith, pow-shift n 64 h) in s) e
-    ∙ take-replicate 0 (2 ^ n) k l
+    ∙ take-replicate x (2 ^ n) k l
 
 -- where no word marks a link, every mask is empty
 pub faults-none : (n : ℕ) (links : List ℕ) → narrow 0 links ≡ true → replicate (2 ^ n) 0 ≡ allFaults n links

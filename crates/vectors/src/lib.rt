@@ -303,16 +303,16 @@ fn round(n: u32, status: &[u8], masks: &[u16], bytes: &[u8], vectors: &mut [u16]
     }
 }
 
-// The rounds, one for each bit.
+// The rounds, one for each bit; before the first, every byte shows bit 0, which is 1.
 fn all_rounds(n: u32, status: &[u8], masks: &[u16], bytes: &mut [u8], vectors: &mut [u16])
-    requires { ⌜ (n ≤ 10) × (length (now masks) ≡ 2 ^ n) × (length (now bytes) ≡ 2 ^ n) × (length (now vectors) ≡ 2 ^ n) ⌝ }
+    requires { ⌜ (n ≤ 10) × (length (now masks) ≡ 2 ^ n) × (now bytes ≡ replicate (2 ^ n) 1) × (length (now vectors) ≡ 2 ^ n) ⌝ }
     ensures { λ r. ⌜ now (vectors .exit) ≡ after (known n (now (status .entry)) (now (masks .entry))) n ⌝ }
 {
     clear(vectors);
     let mut k: u32 = 0;
     while k < n {
-        show(vectors, bytes, k);
         round(n, status, masks, bytes, vectors, k);
+        show(vectors, bytes, k + 1);
         k += 1;
     }
 }
@@ -326,7 +326,7 @@ fn by_rounds(
     bytes: &mut [u8],
     vectors: &mut [u16],
 )
-    requires { ⌜ (n ≤ 10) × (now masks ≡ replicate (2 ^ n) 0) × (length (now bytes) ≡ 2 ^ n) × (length (now vectors) ≡ 2 ^ n) × (length (now links) ≡ 2 ^ n) ⌝ }
+    requires { ⌜ (n ≤ 10) × (now masks ≡ replicate (2 ^ n) 0) × (now bytes ≡ replicate (2 ^ n) 1) × (length (now vectors) ≡ 2 ^ n) × (length (now links) ≡ 2 ^ n) ⌝ }
     ensures { λ r. ⌜ now (vectors .exit) ≡ after (cube n (now (status .entry)) (now (links .entry))) n ⌝ }
 {
     gather(n, links, masks);
@@ -340,11 +340,11 @@ fn room_for_masks() -> [u16; 1024]
     [0; 1024]
 }
 
-// Room for the bytes of 1,024 boards.
+// The bytes of 1,024 boards that show bit 0.
 fn room_for_bytes() -> [u8; 1024]
-    ensures { λ r. ⌜ 1024 ≡ length r ⌝ }
+    ensures { λ r. ⌜ r ≡ replicate 1024 1 ⌝ }
 {
-    [0; 1024]
+    [1; 1024]
 }
 
 // With room for 32 boards.
@@ -354,7 +354,7 @@ fn in_few(n: u32, status: &[u8], links: &[u16], vectors: &mut [u16])
 {
     let nodes: usize = 1 << n;
     let mut masks = [0u16; 32];
-    let mut bytes = [0u8; 32];
+    let mut bytes = [1u8; 32];
     by_rounds(
         n,
         status,

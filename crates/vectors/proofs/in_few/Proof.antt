@@ -1,9 +1,8 @@
 -- `vectors::in_few` meets its contract: the parts that it lends lie within its arrays.
 use mathlib.Core.Path.{refl}
 use borrow.Author.Needs.{needs}
-use Prim.Native.Nat.{_^_, _≤_}
+use Prim.Native.Nat.{_^_, _≤_, _<_}
 use native.Mathlib.Omega.{arith}
-use lib.ListN.{length-take}
 use lib.Pow.{pow-mono}
 use Rattle.vectors.proofs.Rounds.{room}
 use Rattle.vectors.proofs.in_few.Statement.{statement}
@@ -37,7 +36,8 @@ part-bytes-end c = omega (arith, few (c .before .before .before .before))
 by-rounds-requires : tie.Need-by-rounds-requires
 by-rounds-requires c κs =
     let s = c .before .before .before .before .before .before in
-    (omega (arith, s .pre .0), room (s .args .n) 32 _ (omega (arith, s .pre .0)) (few s) refl, simp length-take (omega (arith, few s)), s .pre .1, s .pre .2)
+    let small : s .args .n < 64 = omega (arith, s .pre .0) in
+    (omega (arith, s .pre .0), room 0 (s .args .n) 32 _ small (few s) refl, room 1 (s .args .n) 32 _ small (few s) refl, s .pre .1, s .pre .2)
 
 same-length : tie.Need-same-length
 same-length c = search needs

@@ -1,8 +1,7 @@
 -- `vectors::in_many` meets its contract: the parts that it lends lie within its arrays.
 use borrow.Author.Needs.{needs}
-use Prim.Native.Nat.{_^_, _≤_}
+use Prim.Native.Nat.{_^_, _≤_, _<_}
 use native.Mathlib.Omega.{arith}
-use lib.ListN.{length-take}
 use lib.Pow.{pow-mono}
 use Rattle.vectors.proofs.Rounds.{room}
 use Rattle.vectors.proofs.in_many.Statement.{statement}
@@ -42,7 +41,8 @@ part-bytes-end c = omega (arith, few (c .before .before .before .before .before 
 by-rounds-requires : tie.Need-by-rounds-requires
 by-rounds-requires c κs =
     let s = c .before .before .before .before .before .before .before .before in
-    (omega (arith, s .pre .0), room (s .args .n) 1024 _ (omega (arith, s .pre .0)) (few s) (c .before .before .before .before .room-for-masks .ensures), simp length-take (omega (arith, few s)), s .pre .1, s .pre .2)
+    let small : s .args .n < 64 = omega (arith, s .pre .0) in
+    (omega (arith, s .pre .0), room 0 (s .args .n) 1024 _ small (few s) (c .before .before .before .before .room-for-masks .ensures), room 1 (s .args .n) 1024 _ small (few s) (c .before .before .before .room-for-bytes .ensures), s .pre .1, s .pre .2)
 
 same-length : tie.Need-same-length
 same-length c = search needs
