@@ -18,6 +18,8 @@ pub enum Flaw {
     LowerEndAlone,
     UpperEndAlone,
     BothEndsNeeded,
+    OwnEndAlone,
+    LostBoardsMarkNothing,
     FillCarriesOnAfterLinks,
     DetourBeforeLent,
     OwnBitOnly,
@@ -56,7 +58,7 @@ pub enum Flaw {
 }
 
 impl Flaw {
-    pub const ALL: [Flaw; 46] = [
+    pub const ALL: [Flaw; 48] = [
         Flaw::DimensionWraps,
         Flaw::LengthsWrap,
         Flaw::FifthSweepWorks,
@@ -68,6 +70,8 @@ impl Flaw {
         Flaw::LowerEndAlone,
         Flaw::UpperEndAlone,
         Flaw::BothEndsNeeded,
+        Flaw::OwnEndAlone,
+        Flaw::LostBoardsMarkNothing,
         Flaw::FillCarriesOnAfterLinks,
         Flaw::DetourBeforeLent,
         Flaw::OwnBitOnly,
@@ -140,8 +144,9 @@ impl Flawed {
     }
 
     /// Whether a mark in the word of node a counts, where its link goes to a xor 2^i.
-    fn counts(&self, links: &[u16], a: usize, i: u32) -> bool {
+    fn counts(&self, status: &[u8], links: &[u16], a: usize, i: u32) -> bool {
         match self.0 {
+            Flaw::LostBoardsMarkNothing => status.get(a).is_some_and(|&byte| working(byte)),
             Flaw::LowerEndAlone => a >> i & 1 == 0,
             Flaw::UpperEndAlone => a >> i & 1 == 1,
             Flaw::BothEndsNeeded => links.get(a ^ 1 << i).is_some_and(|word| word >> i & 1 == 1),
@@ -150,16 +155,24 @@ impl Flawed {
     }
 
     /// The link words as this door takes them: with the marks that count, and those above n.
-    fn links(&self, n: u32, links: &[u16]) -> Vec<u16> {
-        let left_out = |a| (0..n.min(10)).filter(|&i| !self.counts(links, a, i)).map(|i| 1 << i).sum::<u16>();
+    fn links(&self, n: u32, status: &[u8], links: &[u16]) -> Vec<u16> {
+        let left_out = |a| (0..n.min(10)).filter(|&i| !self.counts(status, links, a, i)).map(|i| 1 << i).sum::<u16>();
         links.iter().enumerate().map(|(a, word)| word & !left_out(a)).collect()
+    }
+
+    /// Whether the link of a to a xor 2^i counts as faulty in Fill.
+    fn faulty(&self, links: &[u16], a: usize, i: u32) -> bool {
+        match self.0 {
+            Flaw::OwnEndAlone => links[a] >> i & 1 == 1,
+            _ => faulty(links, a, i),
+        }
     }
 
     /// The rounds, over a report that Fill accepts.
     fn rounds(&self, n: u32, status: &[u8], links: &[u16], vectors: &mut [u16]) {
         for a in 0..vectors.len() {
             let lost = |i: u32| self.has(Flaw::NeighbourLostClearsBitOne) && !working(status[a ^ 1 << i]);
-            let first = working(status[a]) && !(0..n).any(|i| faulty(links, a, i) || lost(i));
+            let first = working(status[a]) && !(0..n).any(|i| self.faulty(links, a, i) || lost(i));
             vectors[a] = first as u16;
         }
         for k in 2..=n {
@@ -176,7 +189,7 @@ impl Flawed {
         let b = a ^ 1 << i;
         let bit = if self.has(Flaw::SameRound) && b < a { k } else { k - 1 };
         let own = vectors[b] >> (bit - 1) & 1 == 1;
-        own && (self.has(Flaw::OwnBitAcrossBadLink) || !faulty(links, a, i))
+        own && (self.has(Flaw::OwnBitAcrossBadLink) || !self.faulty(links, a, i))
     }
 
     fn source_rule(&self, n: u32, links: &[u16], vectors: &[u16], s: u16, d: u16, answer: Answer) -> Answer {
@@ -277,7 +290,7 @@ impl Door for Flawed {
 
     fn fill(&self, n: u32, status: &[u8], links: &[u16], vectors: &mut [u16]) -> u32 {
         let n = if self.has(Flaw::DimensionWraps) { n % 32 } else { n };
-        let (mut status, links) = (self.status(status), self.links(n, links));
+        let (mut status, links) = (self.status(status), self.links(n, status, links));
         if self.has(Flaw::LengthsWrap) {
             status.truncate(status.len() % 65_536);
         }
@@ -291,7 +304,7 @@ impl Door for Flawed {
     }
 
     fn decide(&self, n: u32, status: &[u8], links: &[u16], vectors: &[u16], s: u16, d: u16) -> Answer {
-        let (status, links) = (self.status(status), self.links(n, links));
+        let (status, links) = (self.status(status), self.links(n, status, links));
         let answer = Plain.decide(n, &status, &links, vectors, s, d);
         match answer.refusal {
             5 if self.has(Flaw::DestinationBeforeSource) && !working(status[d as usize]) => Answer::refused(6),
@@ -304,7 +317,7 @@ impl Door for Flawed {
     }
 
     fn hop(&self, n: u32, status: &[u8], links: &[u16], vectors: &[u16], node: u16, relative: u16) -> Answer {
-        let (status, links) = (self.status(status), self.links(n, links));
+        let (status, links) = (self.status(status), self.links(n, status, links));
         let answer = Plain.hop(n, &status, &links, vectors, node, relative);
         match answer.refusal {
             9 if self.has(Flaw::BitZeroAcrossBadLink) && relative.count_ones() == 1 => {
@@ -328,7 +341,7 @@ impl Door for Flawed {
         s: u16,
         d: u16,
     ) -> Answer {
-        let (status, links) = (self.status(status), self.links(n, links));
+        let (status, links) = (self.status(status), self.links(n, status, links));
         let before = vectors.to_vec();
         let mut picks = picks.to_vec();
         if self.has(Flaw::PicksFromTheSecond) && !picks.is_empty() {
