@@ -23,6 +23,11 @@ check() {
     fi
 }
 
+# Whether the archive is there and no source is newer.
+is_made() {
+    [ -e "$archive" ] && [ -z "$(find "$root/crates" "$root/crates.txt" -newer "$archive" -print | head -n 1)" ]
+}
+
 make_archive() {
     (cd "$root" && rt staticlib deruvain)
 }
@@ -41,7 +46,7 @@ run() {
     cargo run --quiet --offline --release -p "$@"
 }
 
-test -e "$archive" || check "the archive is made" make_archive
+is_made || check "the archive is made" make_archive
 check "the C example prints c/example.out" c_example
 check "the header serves C++" cxx_header
 check "the tests of the Rust crates pass" cargo test --quiet --offline --workspace
