@@ -77,7 +77,7 @@ fn wu() {
     let mut vectors = [say::LENT; 32];
     vectors::fill(5, &STATUS_WU, &links, &mut vectors);
     say::lent(b"Wu's 5-cube: vectors", &vectors);
-    say::say(b"\n");
+    say::end();
 }
 
 // Lists the boards of every class.

@@ -17,16 +17,18 @@ fn answer(decision: Decision) {
 pub(crate) fn decide(n: u32, status: &[u8], links: &[u16], vectors: &[u16], s: u16, d: u16) {
     let decision = routing::decide(n, status, links, vectors, Node(s), Node(d));
     say::ends(s, d);
-    say::say(b": ");
     answer(decision);
-    say::say(b"\n");
+    say::end();
 }
 
 // Decides in cabinet F over slices of these lengths.
 fn sized(n: u32, status: usize, links: usize, vectors: usize, s: u16, d: u16)
     requires { ⌜ (status ≤ 17) × (links ≤ 17) × (vectors ≤ 17) ⌝ }
 {
-    say::sized(b"decide", n, status, links, vectors);
+    say::line(
+        b"decide n=#, lengths # # #",
+        &[n as u64, status as u64, links as u64, vectors as u64],
+    );
     decide(
         n,
         &cabinets::STATUS_F[0..status],
@@ -46,8 +48,10 @@ fn in_f(s: u16, d: u16) {
 fn over(vector: u16, word: u16, s: u16, d: u16) {
     let vectors = [vector; 16];
     let links = [word; 16];
-    say::number(b"decide n=4, every vector ", vector as u64);
-    say::number(b", every link word ", word as u64);
+    say::line(
+        b"decide n=4, every vector #, every link word #",
+        &[vector as u64, word as u64],
+    );
     decide(4, &cabinets::STATUS_F[0..16], &links, &vectors, s, d);
 }
 

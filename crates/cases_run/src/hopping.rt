@@ -18,18 +18,19 @@ fn answer(step: Step) {
 // Hops, and prints node, relative address and answer.
 pub(crate) fn hop(n: u32, status: &[u8], links: &[u16], vectors: &[u16], a: u16, nav: u16) {
     let step = routing::hop(n, status, links, vectors, Node(a), Nav(nav));
-    say::number(b", at ", a as u64);
-    say::number(b" by ", nav as u64);
-    say::say(b": ");
+    say::line(b", at # by #: ", &[a as u64, nav as u64]);
     answer(step);
-    say::say(b"\n");
+    say::end();
 }
 
 // Hops in cabinet F over slices of these lengths.
 fn sized(n: u32, status: usize, links: usize, vectors: usize, a: u16, nav: u16)
     requires { ⌜ (status ≤ 17) × (links ≤ 17) × (vectors ≤ 17) ⌝ }
 {
-    say::sized(b"hop", n, status, links, vectors);
+    say::line(
+        b"hop n=#, lengths # # #",
+        &[n as u64, status as u64, links as u64, vectors as u64],
+    );
     hop(
         n,
         &cabinets::STATUS_F[0..status],

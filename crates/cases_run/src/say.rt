@@ -2,6 +2,8 @@
 use libc::STDOUT_FILENO;
 use routing::Kind;
 use routing::Offer;
+ghost use Prim.Native.Nat.{_≤_};
+ghost use lib.ListN.{length};
 
 // What lent memory holds before a job, so that a change shows.
 pub(crate) const LENT: u16 = 99;
@@ -17,24 +19,50 @@ pub(crate) fn number(words: &[u8], value: u64) {
     io::print_decimal(STDOUT_FILENO, value);
 }
 
-// Prints a job and its dimension.
-pub(crate) fn job(name: &[u8], n: u32) {
-    say(name);
-    number(b" n=", n as u64);
+// The place of the first # of a text from i on, or the text's end.
+fn gap(text: &[u8], i: usize) -> usize
+    requires { ⌜ i ≤ length (now text) ⌝ }
+    ensures { λ r. ⌜ (i ≤ r) × (r ≤ length (now (text .entry))) ⌝ }
+{
+    let mut at = i;
+    while at < text.len() {
+        if text[at] == b'#' {
+            return at;
+        }
+        at += 1;
+    }
+    at
 }
 
-// Prints a job, its dimension, and the lengths of status, links and vectors.
-pub(crate) fn sized(name: &[u8], n: u32, status: usize, links: usize, vectors: usize) {
-    job(name, n);
-    number(b", lengths ", status as u64);
-    number(b" ", links as u64);
-    number(b" ", vectors as u64);
+// One place further, but not past the end.
+fn past(at: usize, end: usize) -> usize
+    requires { ⌜ at ≤ end ⌝ }
+    ensures { λ r. ⌜ r ≤ end ⌝ }
+{
+    if at < end { at + 1 } else { at }
+}
+
+// Prints a text with these numbers in the places of its #.
+pub(crate) fn line(text: &[u8], numbers: &[u64]) {
+    let mut from: usize = 0;
+    let mut i: usize = 0;
+    while i < numbers.len() {
+        let at = gap(text, from);
+        number(&text[from..at], numbers[i]);
+        from = past(at, text.len());
+        i += 1;
+    }
+    say(&text[from..text.len()]);
+}
+
+// Ends a line.
+pub(crate) fn end() {
+    say(b"\n");
 }
 
 // Prints source and destination.
 pub(crate) fn ends(s: u16, d: u16) {
-    number(b", ", s as u64);
-    number(b" to ", d as u64);
+    line(b", # to #: ", &[s as u64, d as u64]);
 }
 
 // Prints a refusal.
@@ -78,16 +106,27 @@ pub(crate) fn lent(name: &[u8], values: &[u16]) {
     words(values);
 }
 
-// The same of 17 words of which a part was lent.
-pub(crate) fn partly_lent(name: &[u8], values: &[u16; 17]) {
+// The same of the first of some words.
+fn first(name: &[u8], values: &[u16], count: usize) {
+    if count < values.len() {
+        lent(name, &values[0..count]);
+        return;
+    }
     lent(name, values);
+}
+
+// The same of the first of 17 words of which a part was lent.
+pub(crate) fn partly_lent(name: &[u8], values: &[u16; 17], count: usize) {
+    first(name, values, count);
 }
 
 // Prints a mask and the hops.
 fn offer(kind: &[u8], offered: Offer) {
     say(kind);
-    number(b", mask ", offered.mask as u64);
-    number(b", hops ", offered.hops as u64);
+    line(
+        b", mask #, hops #",
+        &[offered.mask as u64, offered.hops as u64],
+    );
 }
 
 // Prints how a source is accepted.
