@@ -1,14 +1,39 @@
 // Decide: its refusals in order, its kinds, and what it does with wrong vectors.
 use crate::cabinets;
-use crate::say;
 use cube::Node;
 use routing::Decision;
+use routing::Kind;
+use routing::Offer;
 ghost use Prim.Native.Nat.{_≤_};
+
+// Prints source and destination.
+pub(crate) fn ends(s: u16, d: u16) {
+    say::line(b", # to #: ", &[s as u64, d as u64]);
+}
+
+// Prints a mask and the hops.
+fn offer(kind: &[u8], offered: Offer) {
+    say::say(kind);
+    say::line(
+        b", mask #, hops #",
+        &[offered.mask as u64, offered.hops as u64],
+    );
+}
+
+// Prints how a source is accepted.
+pub(crate) fn kind(accepted: Kind) {
+    match accepted {
+        Kind::Home => say::say(b"home"),
+        Kind::Assured(offered) => offer(b"assured", offered),
+        Kind::Lent(offered) => offer(b"lent", offered),
+        Kind::Detour(offered) => offer(b"detour", offered),
+    }
+}
 
 // Prints what Decide answers.
 fn answer(decision: Decision) {
     match decision {
-        Decision::Accepted(kind) => say::kind(kind),
+        Decision::Accepted(how) => kind(how),
         Decision::Refused(by) => say::refused(by),
     }
 }
@@ -16,7 +41,7 @@ fn answer(decision: Decision) {
 // Decides, and prints source, destination and answer.
 pub(crate) fn decide(n: u32, status: &[u8], links: &[u16], vectors: &[u16], s: u16, d: u16) {
     let decision = routing::decide(n, status, links, vectors, Node(s), Node(d));
-    say::ends(s, d);
+    ends(s, d);
     answer(decision);
     say::end();
 }

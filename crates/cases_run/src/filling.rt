@@ -1,6 +1,5 @@
 // Fill: its refusals in order, and what it writes.
 use crate::cabinets;
-use crate::say;
 use vectors::Filled;
 ghost use Prim.Native.Nat.{_≤_};
 

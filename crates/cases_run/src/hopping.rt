@@ -1,6 +1,5 @@
 // Hop: its refusals in order, arrival, and the mask alone.
 use crate::cabinets;
-use crate::say;
 use cube::Nav;
 use cube::Node;
 use routing::Step;

@@ -1,6 +1,6 @@
 // Journey: its refusals in order, the vectors and the path that it leaves, and its picks.
 use crate::cabinets;
-use crate::say;
+use crate::deciding;
 use cube::Node;
 use journey::Trip;
 ghost use Prim.Native.Nat.{_≤_};
@@ -9,7 +9,7 @@ ghost use Prim.Native.Nat.{_≤_};
 fn answer(trip: Trip) {
     match trip {
         Trip::Arrived(kind, hops) => {
-            say::kind(kind);
+            deciding::kind(kind);
             say::number(b", came by ", hops as u64);
         },
         Trip::Refused(by) => say::refused(by),
@@ -43,7 +43,7 @@ fn go_over(
         Node(s),
         Node(d),
     );
-    say::ends(s, d);
+    deciding::ends(s, d);
     answer(trip);
     say::partly_lent(b", vectors", &lent, vectors_shown);
     say::partly_lent(b", path", &way, path_shown);

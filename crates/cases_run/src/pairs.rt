@@ -3,7 +3,6 @@ use crate::deciding;
 use crate::filling;
 use crate::hopping;
 use crate::journeys;
-use crate::say;
 
 // Both boards work.
 const BOARDS: [u8; 2] = [1, 1];
