@@ -6,11 +6,6 @@ use routing::Kind;
 use routing::Offer;
 ghost use Prim.Native.Nat.{_≤_};
 
-// Prints source and destination.
-pub(crate) fn ends(s: u16, d: u16) {
-    say::line(b", # to #: ", &[s as u64, d as u64]);
-}
-
 // Prints a mask and the hops.
 fn offer(kind: &[u8], offered: Offer) {
     say::say(kind);
@@ -41,7 +36,7 @@ fn answer(decision: Decision) {
 // Decides, and prints source, destination and answer.
 pub(crate) fn decide(n: u32, status: &[u8], links: &[u16], vectors: &[u16], s: u16, d: u16) {
     let decision = routing::decide(n, status, links, vectors, Node(s), Node(d));
-    ends(s, d);
+    say::ends(s, d);
     answer(decision);
     say::end();
 }
@@ -50,10 +45,7 @@ pub(crate) fn decide(n: u32, status: &[u8], links: &[u16], vectors: &[u16], s: u
 fn sized(n: u32, status: usize, links: usize, vectors: usize, s: u16, d: u16)
     requires { ⌜ (status ≤ 17) × (links ≤ 17) × (vectors ≤ 17) ⌝ }
 {
-    say::line(
-        b"decide n=#, lengths # # #",
-        &[n as u64, status as u64, links as u64, vectors as u64],
-    );
+    say::sized(b"decide", n, status, links, vectors);
     decide(
         n,
         &cabinets::STATUS_F[0..status],

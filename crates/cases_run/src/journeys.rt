@@ -43,10 +43,10 @@ fn go_over(
         Node(s),
         Node(d),
     );
-    deciding::ends(s, d);
+    say::ends(s, d);
     answer(trip);
-    say::partly_lent(b", vectors", &lent, vectors_shown);
-    say::partly_lent(b", path", &way, path_shown);
+    say::vectors(&lent, vectors_shown);
+    say::path(&way, path_shown);
     say::end();
 }
 

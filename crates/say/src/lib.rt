@@ -58,6 +58,20 @@ pub fn end() {
     say(b"\n");
 }
 
+// Prints a job, its dimension, and the lengths of status, links and vectors.
+pub fn sized(job: &[u8], n: u32, status: usize, links: usize, vectors: usize) {
+    say(job);
+    line(
+        b" n=#, lengths # # #",
+        &[n as u64, status as u64, links as u64, vectors as u64],
+    );
+}
+
+// Prints source and destination.
+pub fn ends(s: u16, d: u16) {
+    line(b", # to #: ", &[s as u64, d as u64]);
+}
+
 // Prints a refusal.
 pub fn refused(by: u32) {
     number(b"refused ", by as u64);
@@ -108,7 +122,12 @@ fn first(name: &[u8], values: &[u16], count: usize) {
     lent(name, values);
 }
 
-// The same of the first of 17 words of which a part was lent.
-pub fn partly_lent(name: &[u8], values: &[u16; 17], count: usize) {
-    first(name, values, count);
+// Prints the first of 17 vectors of which a part was lent.
+pub fn vectors(values: &[u16; 17], count: usize) {
+    first(b", vectors", values, count);
+}
+
+// Prints the first of 17 words of a path of which a part was lent.
+pub fn path(values: &[u16; 17], count: usize) {
+    first(b", path", values, count);
 }
