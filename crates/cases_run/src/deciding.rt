@@ -1,14 +1,34 @@
 // Decide: its refusals in order, its kinds, and what it does with wrong vectors.
 use crate::cabinets;
-use crate::say;
 use cube::Node;
 use routing::Decision;
+use routing::Kind;
+use routing::Offer;
 ghost use Prim.Native.Nat.{_≤_};
+
+// Prints a mask and the hops.
+fn offer(kind: &[u8], offered: Offer) {
+    say::say(kind);
+    say::line(
+        b", mask #, hops #",
+        &[offered.mask as u64, offered.hops as u64],
+    );
+}
+
+// Prints how a source is accepted.
+pub(crate) fn kind(accepted: Kind) {
+    match accepted {
+        Kind::Home => say::say(b"home"),
+        Kind::Assured(offered) => offer(b"assured", offered),
+        Kind::Lent(offered) => offer(b"lent", offered),
+        Kind::Detour(offered) => offer(b"detour", offered),
+    }
+}
 
 // Prints what Decide answers.
 fn answer(decision: Decision) {
     match decision {
-        Decision::Accepted(kind) => say::kind(kind),
+        Decision::Accepted(how) => kind(how),
         Decision::Refused(by) => say::refused(by),
     }
 }
@@ -17,9 +37,8 @@ fn answer(decision: Decision) {
 pub(crate) fn decide(n: u32, status: &[u8], links: &[u16], vectors: &[u16], s: u16, d: u16) {
     let decision = routing::decide(n, status, links, vectors, Node(s), Node(d));
     say::ends(s, d);
-    say::say(b": ");
     answer(decision);
-    say::say(b"\n");
+    say::end();
 }
 
 // Decides in cabinet F over slices of these lengths.
@@ -46,8 +65,10 @@ fn in_f(s: u16, d: u16) {
 fn over(vector: u16, word: u16, s: u16, d: u16) {
     let vectors = [vector; 16];
     let links = [word; 16];
-    say::number(b"decide n=4, every vector ", vector as u64);
-    say::number(b", every link word ", word as u64);
+    say::line(
+        b"decide n=4, every vector #, every link word #",
+        &[vector as u64, word as u64],
+    );
     decide(4, &cabinets::STATUS_F[0..16], &links, &vectors, s, d);
 }
 

@@ -1,6 +1,5 @@
 // Hop: its refusals in order, arrival, and the mask alone.
 use crate::cabinets;
-use crate::say;
 use cube::Nav;
 use cube::Node;
 use routing::Step;
@@ -18,11 +17,9 @@ fn answer(step: Step) {
 // Hops, and prints node, relative address and answer.
 pub(crate) fn hop(n: u32, status: &[u8], links: &[u16], vectors: &[u16], a: u16, nav: u16) {
     let step = routing::hop(n, status, links, vectors, Node(a), Nav(nav));
-    say::number(b", at ", a as u64);
-    say::number(b" by ", nav as u64);
-    say::say(b": ");
+    say::line(b", at # by #: ", &[a as u64, nav as u64]);
     answer(step);
-    say::say(b"\n");
+    say::end();
 }
 
 // Hops in cabinet F over slices of these lengths.

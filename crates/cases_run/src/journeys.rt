@@ -1,6 +1,6 @@
 // Journey: its refusals in order, the vectors and the path that it leaves, and its picks.
 use crate::cabinets;
-use crate::say;
+use crate::deciding;
 use cube::Node;
 use journey::Trip;
 ghost use Prim.Native.Nat.{_≤_};
@@ -9,27 +9,61 @@ ghost use Prim.Native.Nat.{_≤_};
 fn answer(trip: Trip) {
     match trip {
         Trip::Arrived(kind, hops) => {
-            say::kind(kind);
+            deciding::kind(kind);
             say::number(b", came by ", hops as u64);
         },
         Trip::Refused(by) => say::refused(by),
     }
 }
 
-// Prints the dimension, how much is lent, and the word of node 15.
-fn head(n: u32, vectors: usize, picks: usize, path: usize, word: u16) {
-    say::job(b"journey", n);
-    say::number(b", vectors ", vectors as u64);
-    say::number(b", picks ", picks as u64);
-    say::number(b", path ", path as u64);
-    say::number(b", last word ", word as u64);
+// Goes over these many of 17 vectors and 17 path words, and prints the answer and what the first of them then hold.
+fn go_over(
+    n: u32,
+    status: &[u8],
+    links: &[u16],
+    picks: &[u8],
+    vectors: usize,
+    path: usize,
+    s: u16,
+    d: u16,
+    vectors_shown: usize,
+    path_shown: usize,
+)
+    requires { ⌜ (vectors ≤ 17) × (path ≤ 17) ⌝ }
+{
+    let mut lent = [say::LENT; 17];
+    let mut way = [say::LENT; 17];
+    let trip = journey::journey(
+        n,
+        status,
+        links,
+        &mut lent[0..vectors],
+        picks,
+        &mut way[0..path],
+        Node(s),
+        Node(d),
+    );
+    say::ends(s, d);
+    answer(trip);
+    say::vectors(&lent, vectors_shown);
+    say::path(&way, path_shown);
+    say::end();
 }
 
-// Prints source and destination, and what Journey answers.
-pub(crate) fn tell(s: u16, d: u16, trip: Trip) {
-    say::ends(s, d);
-    say::say(b": ");
-    answer(trip);
+// Goes over as many vectors and path words as this, and prints what came of it.
+pub(crate) fn go(
+    n: u32,
+    status: &[u8],
+    links: &[u16],
+    picks: &[u8],
+    vectors: usize,
+    path: usize,
+    s: u16,
+    d: u16,
+)
+    requires { ⌜ (vectors ≤ 17) × (path ≤ 17) ⌝ }
+{
+    go_over(n, status, links, picks, vectors, path, s, d, vectors, path);
 }
 
 // Goes in cabinet F over this many vectors, picks and path words, with this word for node 15.
@@ -39,43 +73,28 @@ fn sized(n: u32, vectors: usize, picks: usize, path: usize, word: u16, s: u16, d
     let mut marks = [0u16; 16];
     marks[15] = word;
     let zeros = [0u8; 17];
-    let mut lent = [say::LENT; 17];
-    let mut way = [say::LENT; 17];
-    let trip = journey::journey(
+    say::line(
+        b"journey n=#, vectors #, picks #, path #, last word #",
+        &[
+            n as u64,
+            vectors as u64,
+            picks as u64,
+            path as u64,
+            word as u64,
+        ],
+    );
+    go_over(
         n,
         &cabinets::STATUS_F[0..16],
         &marks,
-        &mut lent[0..vectors],
         &zeros[0..picks],
-        &mut way[0..path],
-        Node(s),
-        Node(d),
+        vectors,
+        path,
+        s,
+        d,
+        17,
+        17,
     );
-    head(n, vectors, picks, path, word);
-    tell(s, d, trip);
-    say::partly_lent(b", vectors", &lent);
-    say::partly_lent(b", path", &way);
-    say::say(b"\n");
-}
-
-// Goes in a cabinet of dimension 4, and prints what came of it.
-fn go(status: &[u8], links: &[u16], picks: &[u8], s: u16, d: u16) {
-    let mut vectors = [say::LENT; 16];
-    let mut path = [say::LENT; 6];
-    let trip = journey::journey(
-        4,
-        status,
-        links,
-        &mut vectors,
-        picks,
-        &mut path,
-        Node(s),
-        Node(d),
-    );
-    tell(s, d, trip);
-    say::lent(b", vectors", &vectors);
-    say::lent(b", path", &path);
-    say::say(b"\n");
 }
 
 // Goes in cabinet F, every pick the same.
@@ -83,9 +102,12 @@ fn in_f(pick: u8, s: u16, d: u16) {
     let picks = [pick; 5];
     say::number(b"journey F, every pick ", pick as u64);
     go(
+        4,
         &cabinets::STATUS_F[0..16],
         &cabinets::SOUND[0..16],
         &picks,
+        16,
+        6,
         s,
         d,
     );
@@ -93,9 +115,17 @@ fn in_f(pick: u8, s: u16, d: u16) {
 
 // Goes in cabinet L, with picks that differ and one more than asked.
 fn in_l(s: u16, d: u16) {
-    let picks = [0u8, 1, 2, 3, 4, 5];
     say::say(b"journey L, picks 0 1 2 3 4 5");
-    go(&cabinets::STATUS_L, &cabinets::LINKS_L, &picks, s, d);
+    go(
+        4,
+        &cabinets::STATUS_L,
+        &cabinets::LINKS_L,
+        &[0, 1, 2, 3, 4, 5],
+        16,
+        6,
+        s,
+        d,
+    );
 }
 
 // The refusals before filling.

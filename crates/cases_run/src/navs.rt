@@ -1,28 +1,35 @@
 // Relative addresses: their weight, and themselves with one dimension crossed.
-use crate::say;
 use cube::Nav;
 use cube::Node;
 
 // Crosses a dimension and tells what came of it.
 fn cross(nav: u16, dimension: u32) {
     let crossed = Nav(nav).crossed(dimension);
-    say::number(b"address ", nav as u64);
-    say::number(b", crossing ", dimension as u64);
-    say::number(b": ", crossed.0 as u64);
-    say::number(b", weight ", crossed.weight() as u64);
-    say::say(b"\n");
+    say::line(
+        b"address #, crossing #: #, weight #\n",
+        &[
+            nav as u64,
+            dimension as u64,
+            crossed.0 as u64,
+            crossed.weight() as u64,
+        ],
+    );
 }
 
 // Tells the relative address of two nodes, and that of its source and it the destination.
 fn between(s: u16, d: u16) {
     let nav = Node(s).to(Node(d));
     let there = Node(s).at(nav);
-    say::number(b"node ", s as u64);
-    say::number(b" to ", d as u64);
-    say::number(b": address ", nav.0 as u64);
-    say::number(b", weight ", nav.weight() as u64);
-    say::number(b", leads to ", there.0 as u64);
-    say::say(b"\n");
+    say::line(
+        b"node # to #: address #, weight #, leads to #\n",
+        &[
+            s as u64,
+            d as u64,
+            nav.0 as u64,
+            nav.weight() as u64,
+            there.0 as u64,
+        ],
+    );
 }
 
 // All of them.

@@ -3,8 +3,8 @@ use borrow.Author.Needs.{needs}
 use Prim.Native.Nat.{_-_, _≤_, _<_}
 use native.Mathlib.Omega.{arith}
 use lib.ListN.{length}
-use Rattle.cases_run.proofs.patterns.checksum.Statement.{statement}
-use Rattle.cases_run.proofs.patterns.checksum.Tie as tie
+use Rattle.cubes_run.proofs.patterns.checksum.Statement.{statement}
+use Rattle.cubes_run.proofs.patterns.checksum.Tie as tie
 
 abbrev Inv-loop : tie.InvT-loop
 Inv-loop words sum₀ i₀ sum i = (i ≤ length words) × (sum < 1000003)

@@ -1,27 +1,23 @@
--- `damage::count_cut` is safe and ends. The loop keeps the count within the places tried.
+-- `damage::count_flipped` is safe and ends. The loop keeps the count within the places tried.
 use borrow.Author.Needs.{needs}
 use Prim.Native.Nat.{_-_, _≤_}
-use lib.ListN.{length}
-use Rattle.cases_run.proofs.damage.count_cut.Statement.{statement}
-use Rattle.cases_run.proofs.damage.count_cut.Tie as tie
+use Rattle.cubes_run.proofs.damage.count_flipped.Statement.{statement}
+use Rattle.cubes_run.proofs.damage.count_flipped.Tie as tie
 
 abbrev Inv-loop : tie.InvT-loop
-Inv-loop bytes by count₀ k₀ count k = (k ≤ length bytes) × (count ≤ k)
+Inv-loop change by count₀ k₀ count k = (k ≤ 53) × (count ≤ k)
 
 abbrev μ-loop : tie.MeasureT-loop
-μ-loop bytes by count₀ k₀ count k = length bytes - k
+μ-loop change by count₀ k₀ count k = 53 - k
 
 loop-holds : tie.Need-loop-holds Inv-loop μ-loop
 loop-holds c = search needs
 
-sub-fate : tie.Need-sub-fate Inv-loop μ-loop
-sub-fate c = search needs
+flipped-requires : tie.Need-flipped-requires Inv-loop μ-loop
+flipped-requires c κs = search needs
 
-part-fate-start : tie.Need-part-fate-start Inv-loop μ-loop
-part-fate-start c = search needs
-
-part-fate-end : tie.Need-part-fate-end Inv-loop μ-loop
-part-fate-end c = search needs
+slice-aggregate-fate : tie.Need-slice-aggregate-fate Inv-loop μ-loop
+slice-aggregate-fate c = search needs
 
 fate-requires : tie.Need-fate-requires Inv-loop μ-loop
 fate-requires c κs = search needs
@@ -44,16 +40,15 @@ loop-again c = search needs
 returns : tie.Need-returns Inv-loop μ-loop
 returns c = search needs
 
-pub count-cut-spec : {M : Type 1} → statement M
-count-cut-spec =
+pub count-flipped-spec : {M : Type 1} → statement M
+count-flipped-spec =
     tie.close
     (tie.spec
     Inv-loop
     μ-loop
     loop-holds
-    sub-fate
-    part-fate-start
-    part-fate-end
+    flipped-requires
+    slice-aggregate-fate
     fate-requires
     same-requires
     add-count

@@ -1,6 +1,4 @@
 // Whole cubes: Wu's 5-cube, and boards of every class.
-use crate::say;
-use libc::STDOUT_FILENO;
 
 // Wu's 5-cube: nodes 13, 14, 17, 20, 21, 24 and 25 down.
 const STATUS_WU: [u8; 32] = [
@@ -77,7 +75,7 @@ fn wu() {
     let mut vectors = [say::LENT; 32];
     vectors::fill(5, &STATUS_WU, &links, &mut vectors);
     say::lent(b"Wu's 5-cube: vectors", &vectors);
-    say::say(b"\n");
+    say::end();
 }
 
 // Lists the boards of every class.
@@ -85,7 +83,7 @@ fn classes() {
     let mut out = text::buffer();
     let length = text::listing(&CLASSES, &mut out);
     say::say(b"listing of a board of every class:\n");
-    io::write_all(STDOUT_FILENO, &out[..length]);
+    say::say(&out[..length]);
 }
 
 // All of them.

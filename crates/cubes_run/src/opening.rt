@@ -1,5 +1,4 @@
 // Open: its own order of refusals, and what it writes.
-use crate::say;
 use record::Opened;
 ghost use Prim.Native.Nat.{_≤_};
 
@@ -10,10 +9,7 @@ const FOUR: [u8; 17] = [15, 0, 1, 0, 2, 1, 1, 0, 1, 0, 0, 0, 0, 0, 0, 0, 0];
 fn answer(opened: Opened) {
     match opened {
         Opened::Cube(n) => say::number(b": cube ", n as u64),
-        Opened::Refused(by) => {
-            say::say(b": ");
-            say::refused(by);
-        },
+        Opened::Refused(by) => say::number(b": refused ", by as u64),
     }
 }
 
@@ -33,7 +29,7 @@ fn wide(bytes: [u8; 6]) -> [u16; 6] {
 fn left(status: [u8; 6], links: &[u16; 6]) {
     say::lent(b", status", &wide(status));
     say::lent(b", links", links);
-    say::say(b"\n");
+    say::end();
 }
 
 // Opens some bytes over this many of six status bytes and six link words, and prints what came of it.
@@ -61,9 +57,10 @@ fn rooms(boards: usize, marks: usize, word: u8)
 {
     let mut bytes = FOUR;
     bytes[15] = word;
-    say::number(b"open over ", boards as u64);
-    say::number(b" status bytes and ", marks as u64);
-    say::number(b" link words, last word ", word as u64);
+    say::line(
+        b"open over # status bytes and # link words, last word #",
+        &[boards as u64, marks as u64, word as u64],
+    );
     open(&bytes, boards, marks);
 }
 
@@ -76,10 +73,15 @@ fn made(length: u8, kind: u8, high: u8, n: u8, word: u8, top: u8) {
     bytes[4] = n;
     bytes[15] = word;
     bytes[16] = top;
-    say::number(b"open length ", length as u64);
-    say::number(b", kind ", kind as u64 + 256 * high as u64);
-    say::number(b", n=", n as u64);
-    say::number(b", last word ", word as u64 + 256 * top as u64);
+    say::line(
+        b"open length #, kind #, n=#, last word #",
+        &[
+            length as u64,
+            kind as u64 + 256 * high as u64,
+            n as u64,
+            word as u64 + 256 * top as u64,
+        ],
+    );
     open(&bytes, 6, 6);
 }
 

@@ -1,8 +1,8 @@
 -- `patterns::all` is safe and ends.
 use borrow.Author.Needs.{needs}
 use Prim.Native.Nat.{_-_, _≤_}
-use Rattle.cases_run.proofs.patterns.all.Statement.{statement}
-use Rattle.cases_run.proofs.patterns.all.Tie as tie
+use Rattle.cubes_run.proofs.patterns.all.Statement.{statement}
+use Rattle.cubes_run.proofs.patterns.all.Tie as tie
 
 abbrev Inv-loop : tie.InvT-loop
 Inv-loop n₀ n = n ≤ 11

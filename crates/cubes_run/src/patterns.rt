@@ -1,5 +1,4 @@
 // A fixed pattern of faults for each n, and a checksum of its vectors.
-use crate::say;
 ghost use mathlib.Core.Path.{_≡_};
 ghost use Prim.Native.Nat.{_≤_, _<_};
 ghost use lib.ListN.{length};
@@ -68,9 +67,10 @@ fn cube(n: u32, status: &mut [u8], links: &mut [u16], vectors: &mut [u16])
     set_boards(n, status);
     set_marks(n, links);
     vectors::fill(n, status, links, vectors);
-    say::number(b"pattern n=", n as u64);
-    say::number(b": checksum of the vectors ", checksum(vectors));
-    say::say(b"\n");
+    say::line(
+        b"pattern n=#: checksum of the vectors #\n",
+        &[n as u64, checksum(vectors)],
+    );
 }
 
 // Room for the status bytes of the largest cube.

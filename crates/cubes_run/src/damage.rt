@@ -1,5 +1,4 @@
 // The record of cabinet F, damaged in every place.
-use crate::say;
 use record::Opened;
 ghost use mathlib.Core.Path.{_≡_};
 ghost use Prim.Native.Nat.{_≤_, _<_};
@@ -121,23 +120,24 @@ fn count_cut(bytes: &[u8], by: u32) -> u32
 
 // Tells the counts for one change of a byte.
 fn flips(change: u8) {
-    say::number(b"record F, each byte xor ", change as u64);
-    say::number(b": accepted ", count_flipped(change, 0) as u64);
-    say::number(b", refused 1 ", count_flipped(change, 1) as u64);
-    say::number(b", refused 3 ", count_flipped(change, 3) as u64);
-    say::number(b", refused 10 ", count_flipped(change, 10) as u64);
-    say::say(b"\n");
+    say::line(
+        b"record F, each byte xor #: accepted #, refused 1 #, refused 3 #, refused 10 #\n",
+        &[
+            change as u64,
+            count_flipped(change, 0) as u64,
+            count_flipped(change, 1) as u64,
+            count_flipped(change, 3) as u64,
+            count_flipped(change, 10) as u64,
+        ],
+    );
 }
 
 // All of them.
 pub(crate) fn all() {
-    say::number(b"record F: refused ", fate(&RECORD_F) as u64);
-    say::say(b"\n");
-    say::number(
-        b"record F cut to 0..52 bytes: refused 10 ",
-        count_cut(&RECORD_F, 10) as u64,
+    say::line(
+        b"record F: refused #\nrecord F cut to 0..52 bytes: refused 10 #\n",
+        &[fate(&RECORD_F) as u64, count_cut(&RECORD_F, 10) as u64],
     );
-    say::say(b"\n");
     flips(1);
     flips(8);
     flips(255);

@@ -4,8 +4,8 @@ use Prim.Native.Nat.{_^_, _≤_}
 use native.Mathlib.Omega.{arith}
 use lib.ListN.{length-take}
 use lib.Pow.{pow-mono}
-use Rattle.cases_run.proofs.patterns.of.Statement.{statement}
-use Rattle.cases_run.proofs.patterns.of.Tie as tie
+use Rattle.cubes_run.proofs.patterns.of.Statement.{statement}
+use Rattle.cubes_run.proofs.patterns.of.Tie as tie
 
 shl-nodes : tie.Need-shl-nodes
 shl-nodes c = search needs

@@ -1,29 +1,26 @@
--- `patterns::set_marks` is safe and ends.
+-- `patterns::set_boards` is safe and ends.
 use borrow.Author.Needs.{needs}
 use mathlib.Core.Path.{_≡_}
 use Prim.Native.Nat.{_-_, _≤_}
 use native.Mathlib.Omega.{arith}
 use lib.ListN.{length, length-set}
-use Rattle.cases_run.proofs.patterns.set_marks.Statement.{statement}
-use Rattle.cases_run.proofs.patterns.set_marks.Tie as tie
+use Rattle.cubes_run.proofs.patterns.set_boards.Statement.{statement}
+use Rattle.cubes_run.proofs.patterns.set_boards.Tie as tie
 
 abbrev Inv-loop : tie.InvT-loop
-Inv-loop n links₀ a₀ links a = (a ≤ length links) × (length links ≡ length links₀)
+Inv-loop n status₀ a₀ status a = (a ≤ length status) × (length status ≡ length status₀)
 
 abbrev μ-loop : tie.MeasureT-loop
-μ-loop n links₀ a₀ links a = length links - a
+μ-loop n status₀ a₀ status a = length status - a
 
 loop-holds : tie.Need-loop-holds Inv-loop μ-loop
 loop-holds c = search needs
 
-marks-requires : tie.Need-marks-requires Inv-loop μ-loop
-marks-requires c κs = search needs
+board-requires : tie.Need-board-requires Inv-loop μ-loop
+board-requires c κs = search needs
 
-mul-links : tie.Need-mul-links Inv-loop μ-loop
-mul-links c = search needs
-
-slice-write-links : tie.Need-slice-write-links Inv-loop μ-loop
-slice-write-links c = search needs
+slice-write-status : tie.Need-slice-write-status Inv-loop μ-loop
+slice-write-status c = search needs
 
 add-a : tie.Need-add-a Inv-loop μ-loop
 add-a c = search needs
@@ -40,16 +37,15 @@ same-length c = search needs
 returns : tie.Need-returns Inv-loop μ-loop
 returns c = search needs
 
-pub set-marks-spec : {M : Type 1} → statement M
-set-marks-spec =
+pub set-boards-spec : {M : Type 1} → statement M
+set-boards-spec =
     tie.close
     (tie.spec
     Inv-loop
     μ-loop
     loop-holds
-    marks-requires
-    mul-links
-    slice-write-links
+    board-requires
+    slice-write-status
     add-a
     loop-less
     loop-again
