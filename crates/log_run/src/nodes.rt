@@ -1,6 +1,5 @@
 // The last node of a cube, and nodes that it doesn't have.
 use crate::logs;
-use crate::say;
 ghost use Prim.Native.Nat.{_≤_};
 
 // One record of this node, for a cube of that many nodes.

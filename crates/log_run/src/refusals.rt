@@ -1,6 +1,5 @@
 // The order of the refusals.
 use crate::logs;
-use crate::say;
 ghost use Prim.Native.Nat.{_≤_};
 
 // Two records of these lengths and nodes.

@@ -1,9 +1,9 @@
--- `say::rows` is safe and ends.
+-- `tell::rows` is safe and ends.
 use borrow.Author.Needs.{needs}
 use Prim.Native.Nat.{_-_, _≤_}
 use lib.ListN.{length}
-use Rattle.log_run.proofs.say.rows.Statement.{statement}
-use Rattle.log_run.proofs.say.rows.Tie as tie
+use Rattle.log_run.proofs.tell.rows.Statement.{statement}
+use Rattle.log_run.proofs.tell.rows.Tie as tie
 
 abbrev Inv-loop : tie.InvT-loop
 Inv-loop log at₀ at = at ≤ length log

@@ -1,9 +1,9 @@
--- `say::count` is safe and ends.
+-- `tell::count` is safe and ends.
 use borrow.Author.Needs.{needs}
 use Prim.Native.Nat.{_-_, _≤_}
 use lib.ListN.{length}
-use Rattle.log_run.proofs.say.count.Statement.{statement}
-use Rattle.log_run.proofs.say.count.Tie as tie
+use Rattle.log_run.proofs.tell.count.Statement.{statement}
+use Rattle.log_run.proofs.tell.count.Tie as tie
 
 abbrev Inv-loop : tie.InvT-loop
 Inv-loop values count₀ a₀ count a = (a ≤ length values) × (count ≤ a)

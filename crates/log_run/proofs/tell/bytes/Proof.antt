@@ -1,9 +1,9 @@
--- `say::bytes` is safe and ends.
+-- `tell::bytes` is safe and ends.
 use borrow.Author.Needs.{needs}
 use Prim.Native.Nat.{_-_, _≤_}
 use lib.ListN.{length}
-use Rattle.log_run.proofs.say.bytes.Statement.{statement}
-use Rattle.log_run.proofs.say.bytes.Tie as tie
+use Rattle.log_run.proofs.tell.bytes.Statement.{statement}
+use Rattle.log_run.proofs.tell.bytes.Tie as tie
 
 abbrev Inv-loop : tie.InvT-loop
 Inv-loop values a₀ a = a ≤ length values

@@ -1,28 +1,16 @@
-// Printing on standard output.
-use libc::STDOUT_FILENO;
+// What the cases print: a log, an answer, status bytes.
 use log::Refreshed;
 use record::word_at;
 ghost use Prim.Native.Nat.{_≤_};
 ghost use lib.ListN.{length};
 
-// Prints a text.
-pub(crate) fn say(words: &[u8]) {
-    io::write_all(STDOUT_FILENO, words);
-}
-
-// Prints a text and a number.
-pub(crate) fn number(words: &[u8], value: u64) {
-    say(words);
-    io::print_decimal(STDOUT_FILENO, value);
-}
-
 // Prints a record as its four numbers: length, kind, sweep and node.
 fn row(bytes: &[u8]) {
-    number(b" (", word_at(bytes, 0) as u64);
-    number(b" ", word_at(bytes, 2) as u64);
-    number(b" ", word_at(bytes, 4) as u64);
-    number(b" ", word_at(bytes, 6) as u64);
-    say(b")");
+    say::number(b" (", word_at(bytes, 0) as u64);
+    say::number(b" ", word_at(bytes, 2) as u64);
+    say::number(b" ", word_at(bytes, 4) as u64);
+    say::number(b" ", word_at(bytes, 6) as u64);
+    say::say(b")");
 }
 
 // Prints the whole records of a log.
@@ -37,23 +25,23 @@ pub(crate) fn rows(log: &[u8]) {
 
 // Prints what Refresh is given.
 pub(crate) fn given(n: u32, sweep: u16, log: &[u8]) {
-    number(b", n=", n as u64);
-    number(b", sweep ", sweep as u64);
-    say(b", log");
+    say::number(b", n=", n as u64);
+    say::number(b", sweep ", sweep as u64);
+    say::say(b", log");
     rows(log);
 }
 
 // Prints what Refresh or Update answers.
 pub(crate) fn answer(refreshed: Refreshed) {
     match refreshed {
-        Refreshed::Done(count) => number(b": skipped ", count as u64),
-        Refreshed::Refused(by) => number(b": refused ", by as u64),
+        Refreshed::Done(count) => say::number(b": skipped ", count as u64),
+        Refreshed::Refused(by) => say::number(b": refused ", by as u64),
     }
 }
 
 // Prints a byte after a space.
 fn byte(value: u8) {
-    number(b" ", value as u64);
+    say::number(b" ", value as u64);
 }
 
 // Prints bytes.
@@ -88,18 +76,18 @@ fn ends(values: &[u8])
     requires { ⌜ 1 ≤ length (now values) ⌝ }
 {
     let last = values.len() - 1;
-    say(b" ends in");
+    say::say(b" ends in");
     byte(values[last]);
-    number(b", others not 0: ", count(&values[0..last]) as u64);
+    say::number(b", others not 0: ", count(&values[0..last]) as u64);
 }
 
 // Prints up to eight status bytes, or the ends of more, and ends the line.
 pub(crate) fn status(values: &[u8]) {
-    say(b", status");
+    say::say(b", status");
     if 8 < values.len() {
         ends(values);
     } else {
         bytes(values);
     }
-    say(b"\n");
+    say::say(b"\n");
 }
