@@ -162,10 +162,6 @@ flip-lt n a zero ha hi = xor-lt n a 0 ha (pow-pos n)
 flip-lt n a (suc i) ha hi = xor-lt n a (2 ^ i) ha (pow-lt {i = i} {j = n} hi)
 
 -- crossing as the machine does it
-pub flip-shift : (a i : ℕ) → 1 ≤ i → i ≤ 16 → bitXor a (1 * 2 ^ (i - 1) % 65536) ≡ flip a i
-unfolding flip
-flip-shift a i l h = ap (bitXor a) (place-shift i l h)
-
 pub flip-next : (a i w : ℕ) → i < w → bitXor a (1 * 2 ^ i % 2 ^ w) ≡ flip a (suc i)
 unfolding flip place
 flip-next a i w h = ap (bitXor a) (pow-shift i w h)
