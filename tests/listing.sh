@@ -46,7 +46,12 @@ four='cube 2\n0 working 11\n1 working 11\n2 silent 00\n3 working 11\n'
 
 expect 'document 01, example' "$four" "\017\000\001\000$boards" 8
 expect 'n = 1' 'cube 1\n0 working 1\n1 empty 0\n' '\011\000\001\000\001\001\377' 4
+marked='cube 1\n0 working 0\n1 working 0\n'
+expect 'two boards, marked by the first' "$marked" '\011\000\001\000\001\001\001\001' 3
+expect 'two boards, marked by the second' "$marked" '\011\000\001\000\001\001\001' 2 '\001\000'
+expect 'two boards, marked by one that is down' 'cube 1\n0 working 0\n1 down 0\n' '\011\000\001\000\001\001\376' 2 '\001\000'
 expect_file 'cabinet F' "$(cabinet 11 5 13 0 0 11 0 13 15 0 15 13 15 15 15 15)" "$root/samples/cabinet-f.record"
+expect_file 'cabinet L' "$(cabinet 10 15 10 13 13 15 15 15 13 13 13 0 10 10 15 13)" "$root/samples/cabinet-l.record"
 
 expect 'empty input' 'refused 10\n' ''
 expect 'four bytes' 'refused 10\n' '\003\000\001\000'
