@@ -1,8 +1,8 @@
 #!/usr/bin/env python3
-"""What the programs `cases_run` and `cubes_run` must print, one after the other, by the rules of document 01 and Ask 2 written down here a second time.
+"""What the program `cases_run` must print, by the rules of document 01 and Ask 2 written down here a second time.
 
   tests/cases.py                prints it
-  tests/cases.py FILE..         exit status 1 unless the files, one after the other, have just that
+  tests/cases.py FILE           exit status 1 unless the file has just that
 """
 import sys
 
@@ -387,5 +387,5 @@ for n in range(1, 11):
 
 text = "\n".join(out) + "\n"
 if len(sys.argv) > 1:
-    sys.exit("".join(open(name).read() for name in sys.argv[1:]) != text)
+    sys.exit(open(sys.argv[1]).read() != text)
 sys.stdout.write(text)

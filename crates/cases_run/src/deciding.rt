@@ -1,34 +1,14 @@
 // Decide: its refusals in order, its kinds, and what it does with wrong vectors.
 use crate::cabinets;
+use crate::say;
 use cube::Node;
 use routing::Decision;
-use routing::Kind;
-use routing::Offer;
 ghost use Prim.Native.Nat.{_≤_};
-
-// Prints a mask and the hops.
-fn offer(kind: &[u8], offered: Offer) {
-    say::say(kind);
-    say::line(
-        b", mask #, hops #",
-        &[offered.mask as u64, offered.hops as u64],
-    );
-}
-
-// Prints how a source is accepted.
-pub(crate) fn kind(accepted: Kind) {
-    match accepted {
-        Kind::Home => say::say(b"home"),
-        Kind::Assured(offered) => offer(b"assured", offered),
-        Kind::Lent(offered) => offer(b"lent", offered),
-        Kind::Detour(offered) => offer(b"detour", offered),
-    }
-}
 
 // Prints what Decide answers.
 fn answer(decision: Decision) {
     match decision {
-        Decision::Accepted(how) => kind(how),
+        Decision::Accepted(kind) => say::kind(kind),
         Decision::Refused(by) => say::refused(by),
     }
 }
@@ -45,7 +25,10 @@ pub(crate) fn decide(n: u32, status: &[u8], links: &[u16], vectors: &[u16], s: u
 fn sized(n: u32, status: usize, links: usize, vectors: usize, s: u16, d: u16)
     requires { ⌜ (status ≤ 17) × (links ≤ 17) × (vectors ≤ 17) ⌝ }
 {
-    say::sized(b"decide", n, status, links, vectors);
+    say::line(
+        b"decide n=#, lengths # # #",
+        &[n as u64, status as u64, links as u64, vectors as u64],
+    );
     decide(
         n,
         &cabinets::STATUS_F[0..status],

@@ -1,5 +1,6 @@
 // Fill: its refusals in order, and what it writes.
 use crate::cabinets;
+use crate::say;
 use vectors::Filled;
 ghost use Prim.Native.Nat.{_≤_};
 
@@ -18,7 +19,7 @@ pub(crate) fn fill(n: u32, status: &[u8], links: &[u16], vectors: usize, shown: 
     let mut lent = [say::LENT; 17];
     let filled = vectors::fill(n, status, links, &mut lent[0..vectors]);
     answer(filled);
-    say::vectors(&lent, shown);
+    say::partly_lent(b", vectors", &lent, shown);
     say::end();
 }
 
@@ -28,8 +29,16 @@ fn sized(n: u32, status: usize, links: usize, vectors: usize, word: u16)
 {
     let mut marks = cabinets::SOUND;
     marks[15] = word;
-    say::sized(b"fill", n, status, links, vectors);
-    say::number(b", last word ", word as u64);
+    say::line(
+        b"fill n=#, lengths # # #, last word #",
+        &[
+            n as u64,
+            status as u64,
+            links as u64,
+            vectors as u64,
+            word as u64,
+        ],
+    );
     fill(
         n,
         &cabinets::STATUS_F[0..status],

@@ -1,5 +1,6 @@
 // Hop: its refusals in order, arrival, and the mask alone.
 use crate::cabinets;
+use crate::say;
 use cube::Nav;
 use cube::Node;
 use routing::Step;
@@ -26,7 +27,10 @@ pub(crate) fn hop(n: u32, status: &[u8], links: &[u16], vectors: &[u16], a: u16,
 fn sized(n: u32, status: usize, links: usize, vectors: usize, a: u16, nav: u16)
     requires { ⌜ (status ≤ 17) × (links ≤ 17) × (vectors ≤ 17) ⌝ }
 {
-    say::sized(b"hop", n, status, links, vectors);
+    say::line(
+        b"hop n=#, lengths # # #",
+        &[n as u64, status as u64, links as u64, vectors as u64],
+    );
     hop(
         n,
         &cabinets::STATUS_F[0..status],

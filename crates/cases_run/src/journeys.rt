@@ -1,6 +1,6 @@
 // Journey: its refusals in order, the vectors and the path that it leaves, and its picks.
 use crate::cabinets;
-use crate::deciding;
+use crate::say;
 use cube::Node;
 use journey::Trip;
 ghost use Prim.Native.Nat.{_≤_};
@@ -9,7 +9,7 @@ ghost use Prim.Native.Nat.{_≤_};
 fn answer(trip: Trip) {
     match trip {
         Trip::Arrived(kind, hops) => {
-            deciding::kind(kind);
+            say::kind(kind);
             say::number(b", came by ", hops as u64);
         },
         Trip::Refused(by) => say::refused(by),
@@ -45,8 +45,8 @@ fn go_over(
     );
     say::ends(s, d);
     answer(trip);
-    say::vectors(&lent, vectors_shown);
-    say::path(&way, path_shown);
+    say::partly_lent(b", vectors", &lent, vectors_shown);
+    say::partly_lent(b", path", &way, path_shown);
     say::end();
 }
 

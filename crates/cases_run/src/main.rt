@@ -1,11 +1,16 @@
-// The cases beyond the lettered ones, of the jobs that route: what each answers, and what it leaves in the memory that it is lent.
+// The cases beyond the lettered ones: what each job answers, and what it leaves in the memory that it is lent.
 mod cabinets;
+mod cubes;
+mod damage;
 mod deciding;
 mod filling;
 mod hopping;
 mod journeys;
 mod navs;
+mod opening;
 mod pairs;
+mod patterns;
+mod say;
 
 // Runs all of them, job by job.
 fn main() {
@@ -15,4 +20,8 @@ fn main() {
     hopping::all();
     journeys::all();
     pairs::all();
+    opening::all();
+    damage::all();
+    cubes::all();
+    patterns::all();
 }

@@ -1,4 +1,5 @@
 // Relative addresses: their weight, and themselves with one dimension crossed.
+use crate::say;
 use cube::Nav;
 use cube::Node;
 

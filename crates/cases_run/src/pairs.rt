@@ -3,6 +3,7 @@ use crate::deciding;
 use crate::filling;
 use crate::hopping;
 use crate::journeys;
+use crate::say;
 
 // Both boards work.
 const BOARDS: [u8; 2] = [1, 1];
@@ -21,14 +22,13 @@ fn fill(first: u16, second: u16) {
 
 // Decides and hops over the vectors that Fill writes.
 fn step(first: u16, second: u16, s: u16, d: u16) {
-    let boards = BOARDS;
     let links = [first, second];
     let mut vectors = [say::LENT; 2];
-    vectors::fill(1, &boards, &links, &mut vectors);
+    vectors::fill(1, &BOARDS, &links, &mut vectors);
     head(b"decide", first, second);
-    deciding::decide(1, &boards, &links, &vectors, s, d);
+    deciding::decide(1, &BOARDS, &links, &vectors, s, d);
     head(b"hop", first, second);
-    hopping::hop(1, &boards, &links, &vectors, s, 1);
+    hopping::hop(1, &BOARDS, &links, &vectors, s, 1);
 }
 
 // Goes from one board to the other, and prints what came of it.

@@ -1,5 +1,5 @@
 // Logs made from their numbers, and Refresh run over them.
-use crate::tell;
+use crate::say;
 ghost use mathlib.Core.Path.{_≡_};
 ghost use Prim.Native.Nat.{_≤_};
 ghost use lib.ListN.{length};
@@ -48,8 +48,8 @@ pub(crate) fn length_of(words: &[u16]) -> usize
 // Runs Refresh, and prints what came of it.
 fn refresh(n: u32, sweep: u16, log: &[u8], status: &mut [u8]) {
     let refreshed = log::refresh(n, sweep, log, status);
-    tell::answer(refreshed);
-    tell::status(status);
+    say::answer(refreshed);
+    say::status(status);
 }
 
 // Prints the log of these numbers, and runs its first bytes over this many status bytes.
@@ -59,7 +59,7 @@ pub(crate) fn cut(n: u32, places: usize, sweep: u16, words: &[u16], bytes: usize
     let log = log_of(words);
     let whole = length_of(words);
     let mut status = [LENT; 1024];
-    tell::given(n, sweep, &log[0..whole]);
+    say::given(n, sweep, &log[0..whole]);
     refresh(n, sweep, &log[0..bytes], &mut status[0..places]);
 }
 

@@ -3,9 +3,9 @@ mod logs;
 mod nodes;
 mod parts;
 mod refusals;
+mod say;
 mod shapes;
 mod sweeps;
-mod tell;
 mod youngest;
 
 // Runs all of them, subject by subject.

@@ -1,5 +1,6 @@
 // The last node of a cube, and nodes that it doesn't have.
 use crate::logs;
+use crate::say;
 ghost use Prim.Native.Nat.{_≤_};
 
 // One record of this node, for a cube of that many nodes.

@@ -1,6 +1,6 @@
 // Update: a log that comes in parts.
 use crate::logs;
-use crate::tell;
+use crate::say;
 use log::Refreshed;
 ghost use Prim.Native.Nat.{_≤_};
 
@@ -53,7 +53,7 @@ fn part(from: usize, to: usize, status: &mut [u8]) -> usize
 // Prints how many records were skipped in all, and the status bytes.
 fn told(count: usize, status: &[u8]) {
     say::number(b": skipped ", count as u64);
-    tell::status(status);
+    say::status(status);
 }
 
 // The six in two parts, the first of this many.
@@ -91,9 +91,9 @@ fn each() {
 fn with(sweep: u16, node: u16, kind: u16, second: u16, status: &mut [u8]) {
     let log = logs::log_of(&[6, 2, sweep, node, 6, kind, sweep, second]);
     say::say(b"update with");
-    tell::rows(&log[0..16]);
-    tell::answer(log::update(2, 4711, &log[0..16], status));
-    tell::status(status);
+    say::rows(&log[0..16]);
+    say::answer(log::update(2, 4711, &log[0..16], status));
+    say::status(status);
 }
 
 // Parts that are refused, between two that are not.

@@ -1,5 +1,6 @@
 // The order of the refusals.
 use crate::logs;
+use crate::say;
 ghost use Prim.Native.Nat.{_≤_};
 
 // Two records of these lengths and nodes.

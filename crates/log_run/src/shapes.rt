@@ -1,5 +1,6 @@
 // Records cut short, or of another length or kind.
 use crate::logs;
+use crate::say;
 ghost use Prim.Native.Nat.{_≤_};
 
 // Two records, of which the first bytes are there.

@@ -1,5 +1,6 @@
 // Sweeps around the wrap, and the byte of each age.
 use crate::logs;
+use crate::say;
 
 // One record of this sweep.
 fn heard(sweep: u16, own: u16) {

@@ -1,5 +1,6 @@
 // Several records of one node: the youngest wins, whatever the order.
 use crate::logs;
+use crate::say;
 
 // Two records of one node, of these ages; 40000 and 50000 are from the future.
 fn two(first: u16, second: u16) {
