@@ -12,16 +12,27 @@ use lib.Bits.{bitXor, bitAnd, bitOr, differ, and-step, and-shr, or-step, or-shr,
 use lib.Pow.{pow-pos, pow-mono, pow-lt, pow-add, field, mod-mod-pow}
 use Rattle.cube.specs.Bits.{bit, place, flip, crossed}
 
--- a digit of an exclusive or is 1 where the two digits differ
-differ-digit : (u v : ℕ) → u < 2 → v < 2 → eqb (differ u v) 1 ≡ xor (eqb u 1) (eqb v 1)
-unfolding xor
-differ-digit zero zero hu hv = refl
-differ-digit zero (suc zero) hu hv = refl
-differ-digit zero (suc (suc v)) hu hv = absurd (omega arith)
-differ-digit (suc zero) zero hu hv = refl
-differ-digit (suc zero) (suc zero) hu hv = refl
-differ-digit (suc zero) (suc (suc v)) hu hv = absurd (omega arith)
-differ-digit (suc (suc u)) v hu hv = absurd (omega arith)
+-- an operation on digits, by what it makes of 0 and 1
+digit-by : (f : ℕ → ℕ → ℕ) (g : Bool → Bool → Bool)
+    → eqb (f 0 0) 1 ≡ g false false → eqb (f 0 1) 1 ≡ g false true → eqb (f 1 0) 1 ≡ g true false → eqb (f 1 1) 1 ≡ g true true
+    → (u v : ℕ) → u < 2 → v < 2 → eqb (f u v) 1 ≡ g (eqb u 1) (eqb v 1)
+digit-by f g oo oi io ii zero zero hu hv = oo
+digit-by f g oo oi io ii zero (suc zero) hu hv = oi
+digit-by f g oo oi io ii zero (suc (suc v)) hu hv = absurd (omega arith)
+digit-by f g oo oi io ii (suc zero) zero hu hv = io
+digit-by f g oo oi io ii (suc zero) (suc zero) hu hv = ii
+digit-by f g oo oi io ii (suc zero) (suc (suc v)) hu hv = absurd (omega arith)
+digit-by f g oo oi io ii (suc (suc u)) v hu hv = absurd (omega arith)
+
+-- the bits of what an operation makes digit by digit
+bit-by : (op f : ℕ → ℕ → ℕ) (g : Bool → Bool → Bool) → ((a b k : ℕ) → op a b / 2 ^ k ≡ op (a / 2 ^ k) (b / 2 ^ k)) → ((a b : ℕ) → op a b % 2 ≡ f (a % 2) (b % 2))
+    → ((u v : ℕ) → u < 2 → v < 2 → eqb (f u v) 1 ≡ g (eqb u 1) (eqb v 1)) → false ≡ g false false → (a b i : ℕ) → bit (op a b) i ≡ g (bit a i) (bit b i)
+unfolding bit
+bit-by op f g shr digit same none a b zero = none
+bit-by op f g shr digit same none a b (suc i) =
+    ap (λ (x : ℕ). eqb (x % 2) 1) (shr a b i)
+    ∙ ap (λ (x : ℕ). eqb x 1) (digit (a / 2 ^ i) (b / 2 ^ i))
+    ∙ same (a / 2 ^ i % 2) (b / 2 ^ i % 2) (omega arith) (omega arith)
 
 differ-lt : (u v : ℕ) → u < 2 → v < 2 → differ u v < 2
 differ-lt zero v hu hv = hv
@@ -32,54 +43,20 @@ xor-digit : (a b : ℕ) → bitXor a b % 2 ≡ differ (a % 2) (b % 2)
 xor-digit a b = omega (arith, xor-step a b, differ-lt (a % 2) (b % 2) (omega arith) (omega arith))
 
 pub bit-xor : (a b i : ℕ) → bit (bitXor a b) i ≡ xor (bit a i) (bit b i)
-unfolding bit xor
-bit-xor a b zero = refl
-bit-xor a b (suc i) =
-    ap (λ (x : ℕ). eqb (x % 2) 1) (xor-shr a b i)
-    ∙ ap (λ (x : ℕ). eqb x 1) (xor-digit (a / 2 ^ i) (b / 2 ^ i))
-    ∙ differ-digit (a / 2 ^ i % 2) (b / 2 ^ i % 2) (omega arith) (omega arith)
-
--- a digit of a conjunction is 1 where both digits are
-min-digit : (u v : ℕ) → u < 2 → v < 2 → eqb (min u v) 1 ≡ (eqb u 1 && eqb v 1)
-min-digit zero zero hu hv = refl
-min-digit zero (suc zero) hu hv = refl
-min-digit zero (suc (suc v)) hu hv = absurd (omega arith)
-min-digit (suc zero) zero hu hv = refl
-min-digit (suc zero) (suc zero) hu hv = refl
-min-digit (suc zero) (suc (suc v)) hu hv = absurd (omega arith)
-min-digit (suc (suc u)) v hu hv = absurd (omega arith)
+unfolding xor
+bit-xor = bit-by bitXor differ xor xor-shr xor-digit (digit-by differ xor refl refl refl refl) refl
 
 and-digit : (a b : ℕ) → bitAnd a b % 2 ≡ min (a % 2) (b % 2)
 and-digit a b = omega (arith, and-step a b)
 
 pub bit-and : (a b i : ℕ) → bit (bitAnd a b) i ≡ (bit a i && bit b i)
-unfolding bit
-bit-and a b zero = refl
-bit-and a b (suc i) =
-    ap (λ (x : ℕ). eqb (x % 2) 1) (and-shr a b i)
-    ∙ ap (λ (x : ℕ). eqb x 1) (and-digit (a / 2 ^ i) (b / 2 ^ i))
-    ∙ min-digit (a / 2 ^ i % 2) (b / 2 ^ i % 2) (omega arith) (omega arith)
-
--- a digit of a disjunction is 1 where either digit is
-max-digit : (u v : ℕ) → u < 2 → v < 2 → eqb (max u v) 1 ≡ (eqb u 1 || eqb v 1)
-max-digit zero zero hu hv = refl
-max-digit zero (suc zero) hu hv = refl
-max-digit zero (suc (suc v)) hu hv = absurd (omega arith)
-max-digit (suc zero) zero hu hv = refl
-max-digit (suc zero) (suc zero) hu hv = refl
-max-digit (suc zero) (suc (suc v)) hu hv = absurd (omega arith)
-max-digit (suc (suc u)) v hu hv = absurd (omega arith)
+bit-and = bit-by bitAnd min _&&_ and-shr and-digit (digit-by min _&&_ refl refl refl refl) refl
 
 or-digit : (a b : ℕ) → bitOr a b % 2 ≡ max (a % 2) (b % 2)
 or-digit a b = omega (arith, or-step a b)
 
 pub bit-or : (a b i : ℕ) → bit (bitOr a b) i ≡ (bit a i || bit b i)
-unfolding bit
-bit-or a b zero = refl
-bit-or a b (suc i) =
-    ap (λ (x : ℕ). eqb (x % 2) 1) (or-shr a b i)
-    ∙ ap (λ (x : ℕ). eqb x 1) (or-digit (a / 2 ^ i) (b / 2 ^ i))
-    ∙ max-digit (a / 2 ^ i % 2) (b / 2 ^ i % 2) (omega arith) (omega arith)
+bit-or = bit-by bitOr max _||_ or-shr or-digit (digit-by max _||_ refl refl refl refl) refl
 
 -- the lower bits of a remainder by a power are the number's own
 pub bit-mod : (x n i : ℕ) → i ≤ n → bit (x % 2 ^ n) i ≡ bit x i

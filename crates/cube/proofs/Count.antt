@@ -79,19 +79,14 @@ unfolding pack
 pack-cong p q zero h = refl
 pack-cong p q (suc n) h = ap₂ (λ (x : ℕ) (b : Bool). x + one b * 2 ^ n) (pack-cong p q n (λ i l. h i (omega arith))) (h n (omega arith))
 
--- one dimension more, as a loop packs it
-pub pack-step : (p : ℕ → Bool) (i : ℕ) → pack p (i + 1) ≡ pack p i + one (p (i + 1)) * 2 ^ i
+-- one dimension more as a loop packs it, in a word of w bits
+pub pack-more : (p : ℕ → Bool) (i w m x : ℕ) → i < w → m ≡ pack p i → x ≡ one (p (suc i)) → m + x * 2 ^ i % 2 ^ w ≡ pack p (i + 1)
 unfolding pack
-pack-step p i = rw add-one
-
--- one dimension more as the machine packs it, in a word of w bits
-pub pack-more : (p : ℕ → Bool) (i w x : ℕ) → i < w → x ≡ one (p (i + 1)) → pack p i + x * 2 ^ i % 2 ^ w ≡ pack p (i + 1)
-pack-more p i w x h e =
-    ap (λ (y : ℕ). pack p i + y) (ap (λ (y : ℕ). y * 2 ^ i % 2 ^ w) e ∙ one-shift (p (i + 1)) i w h) ∙ sym (pack-step p i)
+pack-more p i w m x h e d = rw add-one (ap₂ _+_ e (ap (λ (y : ℕ). y * 2 ^ i % 2 ^ w) d ∙ one-shift (p (suc i)) i w h))
 
 -- and it fits
-pub pack-fits : (p : ℕ → Bool) (i w x : ℕ) → i < w → x ≡ one (p (i + 1)) → pack p i + x * 2 ^ i % 2 ^ w < 2 ^ w
-pack-fits p i w x h e = rw (pack-more p i w x h e) (lt-of-lt-of-le (pack-lt p (i + 1)) (pow-mono {i = i + 1} {j = w} (omega arith)))
+pub pack-fits : (p : ℕ → Bool) (i w m x : ℕ) → i < w → m ≡ pack p i → x ≡ one (p (suc i)) → m + x * 2 ^ i % 2 ^ w < 2 ^ w
+pack-fits p i w m x h e d = rw (pack-more p i w m x h e d) (lt-of-lt-of-le (pack-lt p (i + 1)) (pow-mono {i = i + 1} {j = w} (omega arith)))
 
 -- the bits of a packed word
 pub bit-pack : (p : ℕ → Bool) (n i : ℕ) → i < n → bit (pack p n) (suc i) ≡ p (suc i)
@@ -203,6 +198,11 @@ count-le p (suc n) = omega (arith, count-le p n, one-le (p (suc n)))
 pub count-step : (p : ℕ → Bool) (i : ℕ) → count p (i + 1) ≡ count p i + one (p (i + 1))
 unfolding count
 count-step p i = rw add-one
+
+-- the same of a sum so far
+pub count-more : (p : ℕ → Bool) (i s x : ℕ) → s ≡ count p i → x ≡ one (p (suc i)) → s + x ≡ count p (i + 1)
+unfolding count
+count-more p i s x e d = rw add-one (ap₂ _+_ e d)
 
 -- five dimensions more, written out
 pub count-five : (p : ℕ → Bool) (i : ℕ)

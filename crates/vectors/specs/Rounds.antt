@@ -1,4 +1,4 @@
--- What Fill keeps between its rounds: the vectors so far, the last bit of every board, and the faulty links of every board.
+-- For Fill's private functions: what it keeps between its rounds, which are the vectors so far, the last bit of every board, and the faulty links of every board.
 use Prim.Native.Nat.{ℕ, _≤_, _^_}
 use mathlib.Core.Bool.{Bool}
 use mathlib.Core.List.{List}

@@ -1,11 +1,10 @@
 -- `vectors::faults` meets its contract. The loop keeps that the mask is that of dimensions 1 to i.
-use mathlib.Core.Path.{_≡_, ap, sym, _∙_}
-use Prim.Native.Nat.{ℕ, suc, _-_, _≤_}
-use native.Mathlib.Numerals.{add-one}
+use mathlib.Core.Path.{_≡_, ap, _∙_}
+use Prim.Native.Nat.{suc, _-_, _≤_}
 use native.Mathlib.Omega.{arith}
 use borrow.Author.Needs.{needs}
 use denote.Ref.{now}
-use Rattle.cube.specs.Count.{one, pack}
+use Rattle.cube.specs.Count.{pack}
 use Rattle.cube.proofs.Bits.{flip-lt}
 use Rattle.cube.proofs.Count.{pack-more, pack-fits}
 use Rattle.report.specs.Report.{cut}
@@ -41,8 +40,7 @@ shl-mask c = search needs
 add-mask : tie.Need-add-mask Inv-loop μ-loop
 add-mask c =
     let a = c .before .before .before .before .args in
-    let i = c .before .before .loop .i in
-    record { fits = rw (c .before .before .loop .inv .1) (pack-fits (cut (now (a .links)) (a .a)) i 16 (c .faulty .result) (omega arith) (c .faulty .ensures .0 ∙ ap (λ (x : ℕ). one (cut (now (a .links)) (a .a) x)) (sym (add-one i)))) }
+    record { fits = pack-fits (cut (now (a .links)) (a .a)) _ 16 _ _ (omega arith) (c .before .before .loop .inv .1) (c .faulty .ensures .0) }
 
 add-i : tie.Need-add-i Inv-loop μ-loop
 add-i c = search needs
@@ -53,8 +51,7 @@ loop-less c = search needs
 loop-again : tie.Need-loop-again Inv-loop μ-loop
 loop-again c =
     let a = c .before .before .before .before .args in
-    let i = c .before .before .loop .i in
-    (omega arith, rw (c .before .before .loop .inv .1) (pack-more (cut (now (a .links)) (a .a)) i 16 (c .faulty .result) (omega arith) (c .faulty .ensures .0 ∙ ap (λ (x : ℕ). one (cut (now (a .links)) (a .a) x)) (sym (add-one i)))))
+    (omega arith, pack-more (cut (now (a .links)) (a .a)) _ 16 _ _ (omega arith) (c .before .before .loop .inv .1) (c .faulty .ensures .0))
 
 returns : tie.Need-returns Inv-loop μ-loop
 unfolding faults

@@ -1,11 +1,10 @@
 -- `vectors::registered_mask` meets its contract. The loop keeps that the mask is that of dimensions 1 to i.
-use mathlib.Core.Path.{_≡_, ap, sym, _∙_}
-use Prim.Native.Nat.{ℕ, suc, _-_, _≤_}
-use native.Mathlib.Numerals.{add-one}
+use mathlib.Core.Path.{_≡_, ap, _∙_}
+use Prim.Native.Nat.{suc, _-_, _≤_}
 use native.Mathlib.Omega.{arith}
 use borrow.Author.Needs.{needs}
 use denote.Ref.{now}
-use Rattle.cube.specs.Count.{one, pack}
+use Rattle.cube.specs.Count.{pack}
 use Rattle.cube.proofs.Bits.{flip-lt}
 use Rattle.cube.proofs.Count.{pack-more, pack-fits}
 use Rattle.report.specs.Report.{cut}
@@ -42,7 +41,7 @@ shl-mask c = search needs
 add-mask : tie.Need-add-mask Inv-loop μ-loop
 add-mask c =
     let a = c .before .before .before .before .before .args in
-    record { fits = rw (c .before .before .loop .inv .1) (pack-fits (registered (cut (now (a .links))) (own (now (a .vectors)) (a .k)) (a .a)) (c .before .before .loop .i) 16 (c .registered .result) (omega arith) (c .registered .ensures .0 ∙ ap (λ (x : ℕ). one (registered (cut (now (a .links))) (own (now (a .vectors)) (a .k)) (a .a) x)) (sym (add-one (c .before .before .loop .i))))) }
+    record { fits = pack-fits (registered (cut (now (a .links))) (own (now (a .vectors)) (a .k)) (a .a)) _ 16 _ _ (omega arith) (c .before .before .loop .inv .1) (c .registered .ensures .0) }
 
 add-i : tie.Need-add-i Inv-loop μ-loop
 add-i c = search needs
@@ -53,7 +52,7 @@ loop-less c = search needs
 loop-again : tie.Need-loop-again Inv-loop μ-loop
 loop-again c =
     let a = c .before .before .before .before .before .args in
-    (omega arith, rw (c .before .before .loop .inv .1) (pack-more (registered (cut (now (a .links))) (own (now (a .vectors)) (a .k)) (a .a)) (c .before .before .loop .i) 16 (c .registered .result) (omega arith) (c .registered .ensures .0 ∙ ap (λ (x : ℕ). one (registered (cut (now (a .links))) (own (now (a .vectors)) (a .k)) (a .a) x)) (sym (add-one (c .before .before .loop .i))))))
+    (omega arith, pack-more (registered (cut (now (a .links))) (own (now (a .vectors)) (a .k)) (a .a)) _ 16 _ _ (omega arith) (c .before .before .loop .inv .1) (c .registered .ensures .0))
 
 returns : tie.Need-returns Inv-loop μ-loop
 returns c =

@@ -1,14 +1,12 @@
 -- `vectors::sum` meets its contract. The loop keeps that the sum is the count along dimensions 1 to i.
-use mathlib.Core.Path.{_≡_, ap, ap₂, sym, _∙_}
-use mathlib.Core.Bool.{Bool}
-use Prim.Native.Nat.{ℕ, suc, _+_, _-_, _≤_}
-use native.Mathlib.Numerals.{add-one}
+use mathlib.Core.Path.{_≡_, ap, _∙_}
+use Prim.Native.Nat.{suc, _-_, _≤_}
 use native.Mathlib.Omega.{arith}
 use borrow.Author.Needs.{needs}
 use denote.Ref.{now}
-use Rattle.cube.specs.Count.{one, count}
+use Rattle.cube.specs.Count.{count}
 use Rattle.cube.proofs.Bits.{flip-lt}
-use Rattle.cube.proofs.Count.{count-le, count-step}
+use Rattle.cube.proofs.Count.{count-le, count-more}
 use Rattle.vectors.specs.Safety.{registered}
 use Rattle.vectors.specs.Rounds.{shown, masked}
 use Rattle.vectors.proofs.sum.Statement.{statement}
@@ -44,9 +42,7 @@ loop-less c = search needs
 loop-again : tie.Need-loop-again Inv-loop μ-loop
 loop-again c =
     let a = c .before .before .before .before .args in
-    let p : ℕ → Bool = registered (masked 0) (shown (now (a .bytes))) (a .a) in
-    let i = c .before .before .loop .i in
-    (omega arith, ap₂ _+_ (c .before .before .loop .inv .1) (c .shown .ensures .0 ∙ ap (λ (x : ℕ). one (p x)) (sym (add-one i))) ∙ sym (count-step p i))
+    (omega arith, count-more (registered (masked 0) (shown (now (a .bytes))) (a .a)) _ _ _ (c .before .before .loop .inv .1) (c .shown .ensures .0))
 
 returns : tie.Need-returns Inv-loop μ-loop
 returns c =
