@@ -45,17 +45,20 @@ fn rank(n: u32, mask: u16, r: u32) -> u32
     requires { ⌜ n ≤ 16 ⌝ }
     ensures { λ i. ⌜ i ≡ ranked (bit mask) r n ⌝ }
 {
-    let mut below: u32 = 0;
-    let mut i: u32 = 0;
-    while i < n {
-        let set = (mask >> i) as u32 % 2;
-        if r < below + set {
-            return i + 1;
+    let mut left = mask;
+    let mut k: u32 = 0;
+    while k < r {
+        if left == 0 {
+            return 0;
         }
-        below = below + set;
-        i += 1;
+        left = left & (left - 1);
+        k += 1;
     }
-    0
+    let i = u16::trailing_zeros(left) + 1;
+    if n < i {
+        return 0;
+    }
+    i
 }
 
 // The dimension that a pick takes of those offered.

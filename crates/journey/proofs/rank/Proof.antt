@@ -1,56 +1,36 @@
--- `journey::rank` meets its contract. The loop keeps how many dimensions up to i are in the mask, no more than r.
-use mathlib.Core.Path.{_≡_, ap, ap₂, sym, _∙_}
-use Prim.Native.Nat.{_+_, _-_, _/_, _%_, _^_, _≤_}
-use native.Mathlib.Nat.{lt-of-le-of-lt, le-trans, le-of-eq}
-use native.Mathlib.Numerals.{add-one}
+-- `journey::rank` meets its contract. The loop makes a turn for each dimension that it strips: k of them so far, and r − k to go.
+use mathlib.Core.Path.{_≡_, refl, ap, sym, _∙_}
+use Prim.Native.Nat.{ℕ, suc, _+_, _-_, _≤_}
 use native.Mathlib.Omega.{arith}
 use borrow.Author.Needs.{needs}
-use lib.Pow.{shr-le}
+use lib.Bits.{bitAnd}
+use lib.Count.{trailing-le}
 use Rattle.cube.specs.Bits.{bit}
-use Rattle.cube.specs.Count.{count}
-use Rattle.cube.proofs.Count.{one-true, one-bit-next, count-le, count-step, ranked-found, ranked-none}
+use Rattle.cube.specs.Count.{ranked}
+use Rattle.cube.proofs.Strip.{ranked-strip, lowest, lowest-none, ranked-zero}
 use Rattle.journey.proofs.rank.Statement.{statement}
 use Rattle.journey.proofs.rank.Tie as tie
 
 abbrev Inv-loop : tie.InvT-loop
-Inv-loop n mask r below₀ i₀ below i = (i ≤ n) × (below ≡ count (bit mask) i) × (below ≤ r)
+Inv-loop n mask r left₀ k₀ left k = (k ≤ r) × (ranked (bit left) (r - k) n ≡ ranked (bit mask) r n)
 
 abbrev μ-loop : tie.MeasureT-loop
-μ-loop n mask r below₀ i₀ below i = n - i
+μ-loop n mask r left₀ k₀ left k = r - k
 
 loop-holds : tie.Need-loop-holds Inv-loop μ-loop
-unfolding count
-loop-holds c = search needs
-
-cast-set : tie.Need-cast-set Inv-loop μ-loop
-cast-set c = search needs
-
-shr-set : tie.Need-shr-set Inv-loop μ-loop
-shr-set c = search needs
-
-cast-set-2 : tie.Need-cast-set-2 Inv-loop μ-loop
-cast-set-2 c = record { fits = lt-of-le-of-lt (shr-le _ _) (omega arith) }
-
-add-if1 : tie.Need-add-if1 Inv-loop μ-loop
-add-if1 c = omega (arith, c .before .loop .inv .1, count-le (bit (c .before .before .args .mask)) (c .before .loop .i))
-
-add-result : tie.Need-add-result Inv-loop μ-loop
-add-result c = search needs
+loop-holds c = (omega arith, ap (λ (j : ℕ). ranked (bit (c .args .mask)) j (c .args .n)) (let e : c .args .r - 0 ≡ c .args .r = omega arith in e))
 
 returns : tie.Need-returns Inv-loop μ-loop
 returns c =
     let a = c .before .before .before .args in
     let l = c .before .before .loop in
-    let set : a .mask / 2 ^ (l .i) % 2 ≡ 1 = omega arith in
-    add-one (l .i)
-    ∙ sym (ranked-found (bit (a .mask)) (a .r) (a .n) (l .i) (c .before .loop-test .taken)
-    (rw add-one at (one-true (bit (a .mask) (l .i + 1)) _ (one-bit-next (a .mask) (l .i)) set)) (omega (arith, l .inv .1)))
+    sym (ranked-zero (a .r - l .k) (a .n)) ∙ ap (λ (x : ℕ). ranked (bit x) (a .r - l .k) (a .n)) (sym (c .if1 .taken)) ∙ l .inv .1
 
-add-below : tie.Need-add-below Inv-loop μ-loop
-add-below c = omega (arith, c .before .before .loop .inv .1, count-le (bit (c .before .before .before .args .mask)) (c .before .before .loop .i))
+sub-left : tie.Need-sub-left Inv-loop μ-loop
+sub-left c = search needs
 
-add-i : tie.Need-add-i Inv-loop μ-loop
-add-i c = search needs
+add-k : tie.Need-add-k Inv-loop μ-loop
+add-k c = search needs
 
 loop-less : tie.Need-loop-less Inv-loop μ-loop
 loop-less c = search needs
@@ -59,13 +39,25 @@ loop-again : tie.Need-loop-again Inv-loop μ-loop
 loop-again c =
     let a = c .before .before .before .args in
     let l = c .before .before .loop in
-    (omega arith, ap₂ _+_ (l .inv .1) (one-bit-next (a .mask) (l .i)) ∙ sym (count-step (bit (a .mask)) (l .i)), omega arith)
+    let e : suc (a .r - (l .k + 1)) ≡ a .r - l .k = omega arith in
+    (omega arith, ranked-strip (l .left) (a .r - (l .k + 1)) (a .n) ∙ ap (λ (j : ℕ). ranked (bit (l .left)) j (a .n)) e ∙ l .inv .1)
+
+add-i : tie.Need-add-i Inv-loop μ-loop
+add-i c = record { fits = omega (arith, trailing-le 16 (c .before .loop .left)) }
 
 returns-2 : tie.Need-returns-2 Inv-loop μ-loop
 returns-2 c =
-    let a = c .before .before .args in
-    let e : c .before .loop .i ≡ a .n = omega arith in
-    sym (ranked-none (bit (a .mask)) (a .r) (a .n) (le-trans (le-of-eq (sym (c .before .loop .inv .1 ∙ ap (count (bit (a .mask))) e))) (c .before .loop .inv .2)))
+    let a = c .before .before .before .args in
+    let l = c .before .before .loop in
+    let e : 0 ≡ a .r - l .k = omega arith in
+    sym (lowest-none 16 (l .left) (a .n) (omega arith)) ∙ ap (λ (j : ℕ). ranked (bit (l .left)) j (a .n)) e ∙ l .inv .1
+
+returns-3 : tie.Need-returns-3 Inv-loop μ-loop
+returns-3 c =
+    let a = c .before .before .before .args in
+    let l = c .before .before .loop in
+    let e : 0 ≡ a .r - l .k = omega arith in
+    sym (lowest 16 (l .left) (a .n) (omega arith) (omega arith)) ∙ ap (λ (j : ℕ). ranked (bit (l .left)) j (a .n)) e ∙ l .inv .1
 
 pub rank-spec : {M : Type 1} → statement M
 rank-spec =
@@ -74,14 +66,11 @@ rank-spec =
     Inv-loop
     μ-loop
     loop-holds
-    cast-set
-    shr-set
-    cast-set-2
-    add-if1
-    add-result
     returns
-    add-below
-    add-i
+    sub-left
+    add-k
     loop-less
     loop-again
-    returns-2)
+    add-i
+    returns-2
+    returns-3)
