@@ -195,11 +195,6 @@ count-le p zero = omega arith
 count-le p (suc n) = omega (arith, count-le p n, one-le (p (suc n)))
 
 -- one dimension more, as a loop counts it
-pub count-step : (p : ℕ → Bool) (i : ℕ) → count p (i + 1) ≡ count p i + one (p (i + 1))
-unfolding count
-count-step p i = rw add-one
-
--- the same of a sum so far
 pub count-more : (p : ℕ → Bool) (i s x : ℕ) → s ≡ count p i → x ≡ one (p (suc i)) → s + x ≡ count p (i + 1)
 unfolding count
 count-more p i s x e d = rw add-one (ap₂ _+_ e d)

@@ -1,9 +1,9 @@
 -- The laws of a word's lowest bit: without it every rank is one lower, and the zeros below it tell which it is.
-use mathlib.Core.Path.{_≡_, refl, ap, ap₂, sym, _∙_}
+use mathlib.Core.Path.{_≡_, refl, ap, sym, _∙_}
 use mathlib.Core.Bool.{Bool, true, false, cond, _&&_, and-false}
 use mathlib.Core.Logic.{⊎-elim}
 use Prim.Native.Nat.{ℕ, zero, suc, _+_, _*_, _-_, _/_, _%_, _^_, _≤_, _<_}
-use native.Mathlib.Nat.{mod-lt, le-of-eq, eq-zero-or-pos, div-one}
+use native.Mathlib.Nat.{mod-lt, eq-zero-or-pos, div-one}
 use native.Mathlib.Numerals.{add-one, one-add}
 use native.Mathlib.Omega.{arith}
 use borrow.Author.Tests.{lt-ltb}
@@ -13,7 +13,7 @@ use lib.Count.{ones, onesIn, under, trailingZeros}
 use lib.Pow.{pow-pos, ones-lt, split, high, shr-shr}
 use Rattle.cube.specs.Bits.{bit, weight}
 use Rattle.cube.specs.Count.{one, count, ranked}
-use Rattle.cube.proofs.Bits.{bit-and, bit-zero}
+use Rattle.cube.proofs.Bits.{bit-and}
 use Rattle.cube.proofs.Count.{weight-count, weight-pos, ranked-found, ranked-none}
 
 -- q is p without the lowest i from 1 on that has p
@@ -81,8 +81,8 @@ bit-strip x i = bit-and x (x - 1) (suc i) ∙ ⊎-elim first later (eq-zero-or-p
         let same : (x - 1) / 2 ^ i ≡ x / 2 ^ i = ap (λ (y : ℕ). y / 2 ^ i) less ∙ high (x / 2 ^ i) i (omega (arith, mod-lt x (pow-pos i))) in
         rw (same, sym (weight-count x i), lt-ltb 0 (weight (x % 2 ^ i)) (weight-pos i (x % 2 ^ i) (mod-lt x (pow-pos i)) l)) (twice (bit x (suc i)))
 
-pub ranked-strip : (x r n : ℕ) → ranked (bit (bitAnd x (x - 1))) r n ≡ ranked (bit x) (suc r) n
-ranked-strip x r n = ranked-stripped (bit x) (bit (bitAnd x (x - 1))) r n (bit-strip x)
+pub ranked-strip : (x r j n : ℕ) → r ≡ suc j → ranked (bit (bitAnd x (x - 1))) j n ≡ ranked (bit x) r n
+ranked-strip x r j n e = rw e (ranked-stripped (bit x) (bit (bitAnd x (x - 1))) j n (bit-strip x))
 
 -- ---- the zeros below it
 
@@ -121,16 +121,12 @@ unfolding count
 count-clear p zero h = refl
 count-clear p (suc n) h = rw (count-clear p n (λ i l. h i (omega arith)), h n (omega arith))
 
--- the lowest of a word of w bits, seen from n dimensions
-pub lowest : (w x n : ℕ) → trailingZeros w x < n → n ≤ w → ranked (bit x) 0 n ≡ trailingZeros w x + 1
-lowest w x n h l =
-    ranked-found (bit x) 0 n (trailingZeros w x) h (trailing-set w x (omega arith)) (count-clear (bit x) (trailingZeros w x) (trailing-clear w x))
-    ∙ sym (add-one (trailingZeros w x))
+-- rank 0 is the lowest of a word of w bits
+pub lowest : (w x r n : ℕ) → r ≡ 0 → trailingZeros w x < n → n ≤ w → ranked (bit x) r n ≡ trailingZeros w x + 1
+lowest w x r n e h l =
+    rw (e, add-one)
+    (ranked-found (bit x) 0 n (trailingZeros w x) h (trailing-set w x (omega arith)) (count-clear (bit x) (trailingZeros w x) (trailing-clear w x)))
 
--- and where it is past them
-pub lowest-none : (w x n : ℕ) → n ≤ trailingZeros w x → ranked (bit x) 0 n ≡ 0
-lowest-none w x n h = ranked-none (bit x) 0 n (le-of-eq (count-clear (bit x) n (λ i l. trailing-clear w x i (omega arith))))
-
--- 0 has no bit of any rank
-pub ranked-zero : (r n : ℕ) → ranked (bit 0) r n ≡ 0
-ranked-zero r n = ranked-none (bit 0) r n (omega (arith, count-clear (bit 0) n (λ i l. bit-zero (suc i))))
+-- there is none where it lies past n
+pub lowest-none : (w x r n : ℕ) → n ≤ trailingZeros w x → ranked (bit x) r n ≡ 0
+lowest-none w x r n h = ranked-none (bit x) r n (omega (arith, count-clear (bit x) n (λ i l. trailing-clear w x i (omega arith))))
