@@ -12,18 +12,18 @@ use lib.Dec.{eqb, ltb, eqb·zero-suc, eqb·suc-suc}
 use lib.Count.{ones, onesIn, under, trailingZeros}
 use lib.Pow.{pow-pos, ones-lt, split, high, shr-shr, mod-pow-add}
 use Rattle.cube.specs.Bits.{bit, weight}
-use Rattle.cube.specs.Count.{one, count, ranked}
+use Rattle.cube.specs.Count.{one, count, any, ranked}
 use Rattle.cube.proofs.Bits.{bit-and}
-use Rattle.cube.proofs.Count.{weight-count, weight-pos, ranked-found, ranked-none}
+use Rattle.cube.proofs.Count.{any-count, count-mono, weight-count, weight-pos, ranked-found, ranked-none}
 
--- q is p without the lowest i from 1 on that has p
+-- q is p without the lowest i that has p: those are left that have one below them
 abbrev Stripped : (p q : ℕ → Bool) → Type 0
-Stripped p q = (i : ℕ) → q (suc i) ≡ (p (suc i) && ltb 0 (count p i))
+Stripped p q = (i : ℕ) → q (suc i) ≡ (p (suc i) && any p i)
 
 count-stripped : (p q : ℕ → Bool) (n : ℕ) → Stripped p q → count q n ≡ count p n - 1
 unfolding count
 count-stripped p q zero h = refl
-count-stripped p q (suc n) h = rw (h n, count-stripped p q n h) (go (p (suc n)) (count p n))
+count-stripped p q (suc n) h = rw (h n, any-count p n, count-stripped p q n h) (go (p (suc n)) (count p n))
   where
     go : (b : Bool) (c : ℕ) → c - 1 + one (b && ltb 0 c) ≡ c + one b - 1
     go true zero = refl
@@ -34,7 +34,7 @@ count-stripped p q (suc n) h = rw (h n, count-stripped p q n h) (go (p (suc n)) 
 ranked-stripped : (p q : ℕ → Bool) (r n : ℕ) → Stripped p q → ranked q r n ≡ ranked p (suc r) n
 unfolding ranked
 ranked-stripped p q r zero h = refl
-ranked-stripped p q r (suc n) h = rw (h n, count-stripped p q n h, ranked-stripped p q r n h) (go (p (suc n)) (count p n))
+ranked-stripped p q r (suc n) h = rw (h n, any-count p n, count-stripped p q n h, ranked-stripped p q r n h) (go (p (suc n)) (count p n))
   where
     go : (b : Bool) (c : ℕ)
         → cond ((b && ltb 0 c) && eqb (c - 1) r) (suc n) (ranked p (suc r) n) ≡ cond (b && eqb c (suc r)) (suc n) (ranked p (suc r) n)
@@ -63,7 +63,7 @@ unfolding bit
 bit-strip x i = bit-and x (x - 1) (suc i) ∙ ⊎-elim first later (eq-zero-or-pos (x % 2 ^ i))
   where
     Same : Type 0
-    Same = (bit x (suc i) && bit (x - 1) (suc i)) ≡ (bit x (suc i) && ltb 0 (count (bit x) i))
+    Same = (bit x (suc i) && bit (x - 1) (suc i)) ≡ (bit x (suc i) && any (bit x) i)
 
     borrowed : (q : ℕ) → x ≡ q * 2 ^ i → (eqb (q % 2) 1 && eqb ((x - 1) / 2 ^ i % 2) 1) ≡ false
     borrowed zero e = refl
@@ -72,13 +72,13 @@ bit-strip x i = bit-and x (x - 1) (suc i) ∙ ⊎-elim first later (eq-zero-or-p
         rw (less, high q i (ones-lt i)) (one-even q)
 
     first : x % 2 ^ i ≡ 0 → Same
-    first e = borrowed (x / 2 ^ i) (omega (arith, split x i)) ∙ sym (rw (count-zero x i e) (and-false (bit x (suc i))))
+    first e = borrowed (x / 2 ^ i) (omega (arith, split x i)) ∙ sym (rw (any-count (bit x) i, count-zero x i e) (and-false (bit x (suc i))))
 
     later : 0 < x % 2 ^ i → Same
     later l =
         let less : x - 1 ≡ x / 2 ^ i * 2 ^ i + (x % 2 ^ i - 1) = omega (arith, split x i) in
         let same : (x - 1) / 2 ^ i ≡ x / 2 ^ i = ap (λ (y : ℕ). y / 2 ^ i) less ∙ high (x / 2 ^ i) i (omega (arith, mod-lt x (pow-pos i))) in
-        rw (same, sym (weight-count x i), lt-ltb 0 (weight (x % 2 ^ i)) (weight-pos i (x % 2 ^ i) (mod-lt x (pow-pos i)) l))
+        rw (same, any-count (bit x) i, sym (weight-count x i), lt-ltb 0 (weight (x % 2 ^ i)) (weight-pos i (x % 2 ^ i) (mod-lt x (pow-pos i)) l))
         (and-self (bit x (suc i)) ∙ sym (and-true (bit x (suc i))))
 
 -- as a loop strips it that has r to go, and then j
@@ -87,36 +87,26 @@ ranked-strip x r j n e = rw e (ranked-stripped (bit x) (bit (bitAnd x (x - 1))) 
 
 -- ---- the zeros below it
 
--- as many digits are 0
-trailing-clear : (w x n : ℕ) → n ≤ trailingZeros w x → x % 2 ^ n ≡ 0
+-- as many digits are 0, and the next is not
+trailing : (w x : ℕ) → (x % 2 ^ trailingZeros w x ≡ 0) × (trailingZeros w x < w → x / 2 ^ trailingZeros w x % 2 ≡ 1)
 unfolding trailingZeros
-trailing-clear w x zero h = mod-one x
-trailing-clear zero x (suc n) h = absurd (omega arith)
-trailing-clear (suc w) x (suc n) h = go (x % 2) refl h (trailing-clear w (x / 2) n)
+trailing zero x = (mod-one x, λ h. absurd (omega arith))
+trailing (suc w) x = go (x % 2) (trailingZeros w (x / 2)) refl (trailing w (x / 2))
   where
-    go : (d : ℕ) → x % 2 ≡ d → suc n ≤ under d (trailingZeros w (x / 2)) → (n ≤ trailingZeros w (x / 2) → x / 2 % 2 ^ n ≡ 0) → x % 2 ^ suc n ≡ 0
-    go zero e h ih = rw (sym (add-one n)) (omega (arith, mod-pow-add x n 1, ih (omega arith)))
-    go (suc d) e h ih = absurd (omega arith)
+    go : (d t : ℕ) → x % 2 ≡ d → (x / 2 % 2 ^ t ≡ 0) × (t < w → x / 2 / 2 ^ t % 2 ≡ 1)
+        → (x % 2 ^ under d t ≡ 0) × (under d t < suc w → x / 2 ^ under d t % 2 ≡ 1)
+    go zero t e (clear, set) = (rw (sym (add-one t)) (omega (arith, mod-pow-add x t 1)), λ h. rw (sym (one-add t), sym (shr-shr x 1 t)) (set (omega arith)))
+    go (suc d) t e rest = (mod-one x, λ h. omega arith)
 
--- and the next is not
-trailing-set : (w x : ℕ) → trailingZeros w x < w → x / 2 ^ trailingZeros w x % 2 ≡ 1
-unfolding trailingZeros
-trailing-set zero x h = absurd (omega arith)
-trailing-set (suc w) x h = go (x % 2) refl h (trailing-set w (x / 2))
-  where
-    go : (d : ℕ) → x % 2 ≡ d → under d (trailingZeros w (x / 2)) < suc w
-        → (trailingZeros w (x / 2) < w → x / 2 / 2 ^ trailingZeros w (x / 2) % 2 ≡ 1) → x / 2 ^ under d (trailingZeros w (x / 2)) % 2 ≡ 1
-    go zero e h ih = rw (sym (one-add (trailingZeros w (x / 2))), sym (shr-shr x 1 (trailingZeros w (x / 2)))) (ih (omega arith))
-    go (suc d) e h ih = omega arith
+count-below : (w x : ℕ) → count (bit x) (trailingZeros w x) ≡ 0
+count-below w x = count-zero x (trailingZeros w x) (trailing w x .0)
 
 -- rank 0 is the lowest of a word of w bits
 pub lowest : (w x r n : ℕ) → r ≡ 0 → trailingZeros w x < n → n ≤ w → ranked (bit x) r n ≡ trailingZeros w x + 1
 unfolding bit
 lowest w x r n e h l =
-    rw (e, add-one)
-    (ranked-found (bit x) 0 n (trailingZeros w x) h (ap (λ (d : ℕ). eqb d 1) (trailing-set w x (omega arith)))
-    (count-zero x (trailingZeros w x) (trailing-clear w x (trailingZeros w x) (omega arith))))
+    rw (e, add-one) (ranked-found (bit x) 0 n (trailingZeros w x) h (ap (λ (d : ℕ). eqb d 1) (trailing w x .1 (omega arith))) (count-below w x))
 
--- where it lies past n there is none
+-- where it lies past n there is none of any rank
 pub lowest-none : (w x r n : ℕ) → n ≤ trailingZeros w x → ranked (bit x) r n ≡ 0
-lowest-none w x r n h = ranked-none (bit x) r n (omega (arith, count-zero x n (trailing-clear w x n h)))
+lowest-none w x r n h = ranked-none (bit x) r n (omega (arith, count-mono (bit x) n (trailingZeros w x) h, count-below w x))
