@@ -9,11 +9,11 @@ use Rattle.cube.specs.Bits.{bit, weight}
 use Rattle.cube.specs.Reply.{Reply, refused, accepted}
 use Rattle.cube.proofs.Count.{weight-le, weight-zero}
 use Rattle.report.specs.Health.{Cube}
-use Rattle.vectors.specs.Safety.{safe, vectors}
-use Rattle.vectors.specs.Held.{own}
-use Rattle.vectors.proofs.Held.{own-safe}
-use Rattle.routing.specs.Rules.{offer, spare, Choice, home, assured, lent, detour, maskOf, hopsOf, choose, atSource, Next, arrived, onward, proceed, atNode}
-use Rattle.routing.proofs.Rules.{offer-lt, offer-find, offer-pos}
+use Rattle.safety.specs.Safety.{safe, vectors}
+use Rattle.held.specs.Held.{own}
+use Rattle.held.proofs.Held.{own-safe}
+use Rattle.rules.specs.Rules.{offer, spare, Choice, home, assured, lent, detour, maskOf, hopsOf, choose, atSource, Next, arrived, onward, proceed, atNode}
+use Rattle.rules.proofs.Rules.{offer-lt, offer-find, offer-pos}
 use Rattle.arrival.specs.Walk.{told}
 use Rattle.arrival.specs.Promise.{beyond}
 use Rattle.arrival.proofs.Hops.{At, UnderWay, Hopped, preferred-hop, spare-hop}

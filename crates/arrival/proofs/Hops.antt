@@ -9,12 +9,12 @@ use Rattle.cube.specs.Bits.{bit, flip, weight}
 use Rattle.cube.proofs.Bits.{flip-lt}
 use Rattle.cube.proofs.Count.{weight-le, weight-off, weight-on, weight-zero, xor-cancel, xor-crossed}
 use Rattle.report.specs.Health.{Cube}
-use Rattle.vectors.specs.Safety.{safe, vectors}
-use Rattle.vectors.specs.Held.{own}
-use Rattle.vectors.proofs.Safety.{safe-works}
-use Rattle.vectors.proofs.Held.{own-safe}
-use Rattle.routing.specs.Rules.{offer, spare}
-use Rattle.routing.proofs.Rules.{offer-each, spare-bit}
+use Rattle.safety.specs.Safety.{safe, vectors}
+use Rattle.held.specs.Held.{own}
+use Rattle.safety.proofs.Safety.{safe-works}
+use Rattle.held.proofs.Held.{own-safe}
+use Rattle.rules.specs.Rules.{offer, spare}
+use Rattle.rules.proofs.Rules.{offer-each, spare-bit}
 
 -- a message for d at board a, with its relative address
 pub record At (C : Cube) (d a nav : ℕ) : Type 0 where

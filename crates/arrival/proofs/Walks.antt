@@ -16,13 +16,13 @@ use Rattle.cube.proofs.Reply.{unless-accepted, unless-refused}
 use Rattle.report.specs.Health.{Cube}
 use Rattle.report.specs.Report.{works, cut, cube}
 use Rattle.report.proofs.Report.{dimension-range}
-use Rattle.vectors.specs.Safety.{vectors}
-use Rattle.vectors.specs.Held.{own}
-use Rattle.routing.specs.Refusals.{routeRefusal}
-use Rattle.routing.specs.Rules.{Choice, hopsOf, Next, arrived, onward, atSource, atNode}
-use Rattle.routing.specs.Decide.{decide}
-use Rattle.routing.specs.Hop.{hop}
-use Rattle.routing.proofs.Refusals.{Clear, clear-of-none, none-of-clear, route-refusal-le}
+use Rattle.safety.specs.Safety.{vectors}
+use Rattle.held.specs.Held.{own}
+use Rattle.rules.specs.Refusals.{routeRefusal}
+use Rattle.rules.specs.Rules.{Choice, hopsOf, Next, arrived, onward, atSource, atNode}
+use Rattle.rules.specs.Decide.{decide}
+use Rattle.rules.specs.Hop.{hop}
+use Rattle.rules.proofs.Refusals.{Clear, clear-of-none, none-of-clear, route-refusal-le}
 use Rattle.arrival.specs.Walk.{Leg, answer, Walk, source, go, boards, fresh, distinct, allWork, allSound}
 use Rattle.arrival.specs.Promise.{Kept}
 use Rattle.arrival.proofs.Hops.{At, UnderWay, Hopped, address-of, home-of-zero, zero-of-home, works-of}

@@ -2,7 +2,7 @@
 use Prim.Native.Nat.{ℕ}
 use mathlib.Core.List.{List, [], _∷_}
 use lib.ListN.{replicate, set}
-use Rattle.routing.specs.Rules.{Choice, assured, lent, detour}
+use Rattle.rules.specs.Rules.{Choice, assured, lent, detour}
 use Rattle.arrival.specs.Walk.{Leg, Walk}
 
 -- cabinet F: n = 4, no bad links, nodes 3, 4, 6 and 9 down, others byte 1

@@ -9,10 +9,10 @@ use lib.ListN.{length}
 use Rattle.cube.specs.Bits.{bit, weight}
 use Rattle.cube.specs.Reply.{refused, accepted}
 use Rattle.report.specs.Report.{cube}
-use Rattle.vectors.specs.Safety.{vectors}
-use Rattle.routing.specs.Rules.{Choice, home, assured, lent, detour, hopsOf, arrived, onward}
-use Rattle.routing.specs.Decide.{decide}
-use Rattle.routing.specs.Hop.{hop}
+use Rattle.safety.specs.Safety.{vectors}
+use Rattle.rules.specs.Rules.{Choice, home, assured, lent, detour, hopsOf, arrived, onward}
+use Rattle.rules.specs.Decide.{decide}
+use Rattle.rules.specs.Hop.{hop}
 use Rattle.arrival.specs.Walk.{Leg, answer, Walk, boards, distinct, allWork, allSound}
 
 -- the hops that a kind takes beyond the distance

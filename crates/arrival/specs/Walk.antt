@@ -8,10 +8,10 @@ use lib.Dec.{eqb}
 use Rattle.cube.specs.Bits.{bit, flip}
 use Rattle.cube.specs.Reply.{Reply, accepted}
 use Rattle.report.specs.Report.{works, cut, cube}
-use Rattle.vectors.specs.Safety.{vectors}
-use Rattle.routing.specs.Rules.{Choice, home, assured, lent, detour, Next, arrived, onward}
-use Rattle.routing.specs.Decide.{decide}
-use Rattle.routing.specs.Hop.{hop}
+use Rattle.safety.specs.Safety.{vectors}
+use Rattle.rules.specs.Rules.{Choice, home, assured, lent, detour, Next, arrived, onward}
+use Rattle.rules.specs.Decide.{decide}
+use Rattle.rules.specs.Hop.{hop}
 
 -- one hop: from a board along a dimension
 pub record Leg : Type 0 where

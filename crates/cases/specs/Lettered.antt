@@ -13,8 +13,8 @@ use Rattle.report.specs.Class.{classOf}
 use Rattle.report.specs.Report.{works, cube}
 use Rattle.report.specs.declared.Class.{Class}
 use Rattle.report.specs.declared.Class.the-variants.{Silent, Working, Late, Down, Empty}
-use Rattle.vectors.specs.Safety.{vectors}
-use Rattle.routing.specs.Rules.{Choice, home, assured, lent, detour}
+use Rattle.safety.specs.Safety.{vectors}
+use Rattle.rules.specs.Rules.{Choice, home, assured, lent, detour}
 use Rattle.journey.specs.Journey.{Route, journey}
 use Rattle.cases.specs.Cabinets.{zeros, statusF, statusL, linksL}
 

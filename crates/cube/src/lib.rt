@@ -1,5 +1,6 @@
 // Nodes and relative addresses of a cube, kept apart. Exclusive or is the only bridge between them.
 ghost use mathlib.Core.Path.{_≡_};
+ghost use mathlib.Core.Bool.{not, cond};
 ghost use lib.Bits.{bitXor};
 ghost use lib.Dec.{eqb};
 ghost use Rattle.cube.specs.Bits.{crossed, weight};
@@ -68,4 +69,11 @@ impl Nav {
     {
         self.0 == 0
     }
+}
+
+// A list of refusals from one of its tests on: this test's number unless it passes, else what the later ones say.
+pub fn refused_unless(passes: bool, number: u32, later: u32) -> u32
+    ensures { λ r. ⌜ r ≡ cond (not passes) number later ⌝ }
+{
+    if passes { later } else { number }
 }

@@ -4,7 +4,7 @@ use mathlib.Core.Path.{_≡_}
 use Rattle.cube.specs.Reply.{Reply, refused, accepted}
 use Rattle.report.specs.declared.Class.{Class}
 use Rattle.report.specs.declared.Class.the-variants.{Silent, Working, Late, Down, Empty}
-use Rattle.routing.specs.Rules.{Choice, home, assured, lent, detour, maskOf, hopsOf, Next, arrived, onward}
+use Rattle.rules.specs.Rules.{Choice, home, assured, lent, detour, maskOf, hopsOf, Next, arrived, onward}
 use Rattle.deruvain.specs.declared.Answer.{Answer}
 use Rattle.deruvain.specs.declared.Record.{Record}
 use Rattle.deruvain.specs.declared.Refresh.{Refresh}

@@ -12,7 +12,9 @@ ghost use mathlib.Core.Path.{_≡_};
 ghost use Rattle.cube.specs.Reply.{numberOf};
 ghost use Rattle.report.specs.Class.{classOf};
 ghost use Rattle.vectors.specs.Fill.{fill, filled};
-ghost use Rattle.routing.specs.Rules.{maskOf};
+ghost use Rattle.rules.specs.Rules.{maskOf};
+ghost use Rattle.rules.specs.Decide.{decide};
+ghost use Rattle.rules.specs.Hop.{hop};
 ghost use Rattle.routing.specs.Decide as deciding;
 ghost use Rattle.routing.specs.Hop as hopping;
 ghost use Rattle.journey.specs.Journey as travelling;
@@ -130,7 +132,7 @@ pub extern "C" fn deruvain_decide(
     source: u16,
     destination: u16,
 ) -> Answer
-    ensures { λ r. ⌜ Decided r (deciding.decide n (now (status .entry)) (now (links .entry)) (now (vectors .entry)) source destination) ⌝ }
+    ensures { λ r. ⌜ Decided r (decide n (now (status .entry)) (now (links .entry)) (now (vectors .entry)) source destination) ⌝ }
 {
     of_decision(routing::decide(n, status, links, vectors, Node(source), Node(destination)))
 }
@@ -161,7 +163,7 @@ pub extern "C" fn deruvain_hop(
     node: u16,
     relative: u16,
 ) -> Answer
-    ensures { λ r. ⌜ Hopped r (hopping.hop n (now (status .entry)) (now (links .entry)) (now (vectors .entry)) node relative) ⌝ }
+    ensures { λ r. ⌜ Hopped r (hop n (now (status .entry)) (now (links .entry)) (now (vectors .entry)) node relative) ⌝ }
 {
     of_step(routing::hop(n, status, links, vectors, Node(node), Nav(relative)))
 }

@@ -11,14 +11,15 @@ use Rattle.cube.specs.Reply.{Reply, refused, accepted}
 use Rattle.cube.proofs.Bits.{bit-pos}
 use Rattle.cube.proofs.Reply.{unless-accepted, refused-accepted}
 use Rattle.report.specs.Report.{cube}
-use Rattle.vectors.specs.Safety.{vectors}
-use Rattle.routing.specs.Rules.{Choice, maskOf, hopsOf, onward}
-use Rattle.routing.specs.Decide.{decide}
+use Rattle.safety.specs.Safety.{vectors}
+use Rattle.rules.specs.Rules.{Choice, maskOf, hopsOf, onward}
+use Rattle.rules.specs.Decide.{decide}
 use Rattle.arrival.specs.Walk.{Leg, answer, Walk, source, go, boards}
 use Rattle.arrival.proofs.Answers.{told-mask}
 use Rattle.arrival.proofs.Walks.{length-boards, kept, offered-small}
-use Rattle.journey.specs.Journey.{taken, via, follow, hops, leave, leaving, Route, routeBy, depart, route, journeyRefusal, journey}
-use Rattle.journey.proofs.Walks.{taken-in}
+use Rattle.journey.specs.Journey.{via, follow, hops, leave, leaving, Route, routeBy, depart, route, journeyRefusal, journey}
+use Rattle.pick.specs.Pick.{taken}
+use Rattle.pick.proofs.Pick.{taken-in}
 
 -- ---- acceptances
 

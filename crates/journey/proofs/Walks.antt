@@ -3,36 +3,25 @@ use mathlib.Core.Path.{_≡_, refl, ap, sym, _∙_}
 use mathlib.Core.Bool.{true, false, cond, true≢false}
 use mathlib.Core.Logic.{inl, inr}
 use mathlib.Core.List.{List, [], _∷_, _++_, append-nil}
-use Prim.Native.Nat.{ℕ, zero, suc, _+_, _-_, _^_, _≤_, _<_}
-use native.Mathlib.Nat.{mod-lt}
+use Prim.Native.Nat.{ℕ, zero, suc, _+_, _-_, _≤_, _<_}
 use native.Mathlib.Numerals.{add-one, one-add}
 use native.Mathlib.Omega.{arith}
 use lib.ListN.{length, getD, take, drop, set}
 use lib.Seq.{take-suc-set, paste}
 use types.Run.{OneOf}
 use denote.Enum.Declared.{tagOf}
-use Rattle.cube.specs.Bits.{bit, flip}
-use Rattle.cube.proofs.Count.{ranked-le, ranked-in, weight-below, weight-pos}
+use Rattle.cube.specs.Bits.{flip}
 use Rattle.cube.specs.Reply.{Reply, refused, accepted, numberOf, isRefusal}
 use Rattle.routing.proofs.Step.{the-type}
 use Rattle.routing.specs.declared.Step.{Step}
 use Rattle.routing.specs.declared.Step.the-variants.{Arrived, Offered, Refused}
-use Rattle.routing.specs.Rules.{Next, arrived, onward}
-use Rattle.routing.specs.Hop.{said, hop}
-use Rattle.journey.specs.Journey.{taken, via, follow, hops, leave}
+use Rattle.pick.specs.Pick.{taken}
+use Rattle.rules.specs.Rules.{Next, arrived, onward}
+use Rattle.rules.specs.Hop.{hop}
+use Rattle.routing.specs.Hop.{said}
+use Rattle.journey.specs.Journey.{via, follow, hops, leave}
 use Rattle.journey.specs.declared.Walk.{Walk}
 use Rattle.journey.specs.Walk.{came, stopped, Crossed, Followed, through}
-
--- a pick takes no dimension above n
-pub taken-le : (n mask pick : ℕ) → taken n mask pick ≤ n
-unfolding taken
-taken-le n mask pick = ranked-le (bit mask) _ n
-
--- of some offered up to n it takes one
-pub taken-in : (n mask pick : ℕ) → 0 < mask → mask < 2 ^ n → bit mask (taken n mask pick) ≡ true
-unfolding taken
-taken-in n mask pick some small =
-    ranked-in (bit mask) _ n (rw (sym (weight-below n mask small)) (mod-lt pick (weight-pos n mask small some)))
 
 -- a refusal with its number, or the boards
 pub stops : (x : Reply Next) (bs : List ℕ) → cond (isRefusal x) (refused (numberOf x)) (accepted bs) ≡ stopped x bs

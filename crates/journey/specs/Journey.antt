@@ -1,26 +1,21 @@
 -- Journey: fills, decides and hops to the end, by a lent list of picks.
-use Prim.Native.Nat.{ℕ, zero, suc, _+_, _%_}
+use Prim.Native.Nat.{ℕ, zero, suc, _+_}
 use mathlib.Core.Bool.{not, _&&_}
 use mathlib.Core.List.{List, [], _∷_, _++_}
 use lib.Bits.{bitXor}
-use lib.Count.{ones}
 use lib.Dec.{leb}
 use lib.ListN.{length, getD, drop}
-use Rattle.cube.specs.Bits.{bit, flip, weight}
-use Rattle.cube.specs.Count.{ranked}
+use Rattle.cube.specs.Bits.{flip}
 use Rattle.cube.specs.Reply.{Reply, refused, accepted, refusal, unless, kept}
 use Rattle.report.specs.Report.{works, cube, dimension, sized, within, narrow}
-use Rattle.vectors.specs.Safety.{vectors}
-use Rattle.routing.specs.Rules.{Choice, maskOf, hopsOf, Next, arrived, onward}
-use Rattle.routing.specs.Decide.{decide, chosen}
-use Rattle.routing.specs.Hop.{hop}
+use Rattle.safety.specs.Safety.{vectors}
+use Rattle.pick.specs.Pick.{taken}
+use Rattle.rules.specs.Rules.{Choice, maskOf, hopsOf, Next, arrived, onward}
+use Rattle.rules.specs.Decide.{decide}
+use Rattle.routing.specs.Decide.{chosen}
+use Rattle.rules.specs.Hop.{hop}
 use Rattle.journey.specs.declared.Trip.{Trip}
 use Rattle.journey.specs.declared.Trip.the-variants.{Arrived, Refused}
-
--- the dimension that a pick takes: of the c dimensions offered, the one of rank (pick mod c), rank 0 the lowest
-unfoldable pub taken : ℕ → ℕ → ℕ → ℕ
-unfolding ranked bit ones
-taken n mask pick = ranked (bit mask) (pick % weight mask) n
 
 -- a board in front of those after it
 unfoldable pub via : ℕ → Reply (List ℕ) → Reply (List ℕ)

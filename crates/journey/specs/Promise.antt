@@ -4,7 +4,7 @@ use mathlib.Core.Path.{_≡_}
 use mathlib.Core.List.{List, _∷_, reverse}
 use lib.ListN.{length, getD}
 use Rattle.cube.specs.Reply.{accepted}
-use Rattle.routing.specs.Rules.{hopsOf}
+use Rattle.rules.specs.Rules.{hopsOf}
 use Rattle.arrival.specs.Walk.{Leg, Walk, boards}
 use Rattle.journey.specs.Journey.{Route, journey}
 

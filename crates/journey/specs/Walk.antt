@@ -6,8 +6,9 @@ use mathlib.Core.List.{List, [], _∷_}
 use lib.ListN.{length, take, set}
 use Rattle.cube.specs.Bits.{flip}
 use Rattle.cube.specs.Reply.{Reply, refused, accepted}
-use Rattle.routing.specs.Rules.{Next, arrived, onward}
-use Rattle.journey.specs.Journey.{taken, via}
+use Rattle.rules.specs.Rules.{Next, arrived, onward}
+use Rattle.pick.specs.Pick.{taken}
+use Rattle.journey.specs.Journey.{via}
 use Rattle.journey.specs.declared.Walk.{Walk}
 
 -- the boards after the source, or the refusal

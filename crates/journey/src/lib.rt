@@ -1,6 +1,7 @@
 // The whole journey: fill, decide, and hop to the end.
 use cube::Nav;
 use cube::Node;
+use cube::refused_unless;
 use routing::Decision;
 use routing::Kind;
 use routing::Step;
@@ -11,14 +12,13 @@ ghost use mathlib.Core.List.{_∷_, _++_};
 ghost use Prim.Native.Nat.{_+_, _-_, _≤_, _<_};
 ghost use lib.Dec.{leb};
 ghost use lib.ListN.{length, take, drop};
-ghost use Rattle.cube.specs.Bits.{bit};
-ghost use Rattle.cube.specs.Count.{ranked};
 ghost use Rattle.cube.specs.Reply.{accepted, isRefusal, OneAnswer};
 ghost use Rattle.routing.specs.Hop as hopping;
 ghost use Rattle.vectors.specs.Fill as filling;
 ghost use Rattle.routing.specs.Decide as deciding;
-ghost use Rattle.routing.specs.Decide.{chosen, decide};
-ghost use Rattle.journey.specs.Journey.{taken, hops, leave, leaving, routeBy, depart, journeyRefusal, journey, arrival, vectorsAfter, pathBy, pathAfter, said};
+ghost use Rattle.rules.specs.Decide.{decide};
+ghost use Rattle.routing.specs.Decide.{chosen};
+ghost use Rattle.journey.specs.Journey.{hops, leave, leaving, routeBy, depart, journeyRefusal, journey, arrival, vectorsAfter, pathBy, pathAfter, said};
 ghost use Rattle.journey.specs.Promise.{JourneyWalks, JourneyArrives};
 ghost use Rattle.journey.specs.Walk.{came, stopped, Crossed, Followed, through};
 
@@ -38,39 +38,6 @@ struct Walk {
     over: bool,
     refused: bool,
     number: u32,
-}
-
-// The dimension of rank r in a mask, rank 0 the lowest; 0 where there is none.
-fn rank(n: u32, mask: u16, r: u32) -> u32
-    requires { ⌜ n ≤ 16 ⌝ }
-    ensures { λ i. ⌜ i ≡ ranked (bit mask) r n ⌝ }
-{
-    let mut left = mask;
-    let mut k: u32 = 0;
-    while k < r {
-        if left == 0 {
-            return 0;
-        }
-        left = left & (left - 1);
-        k += 1;
-    }
-    let i = u16::trailing_zeros(left) + 1;
-    if n < i {
-        return 0;
-    }
-    i
-}
-
-// The dimension that a pick takes of those offered.
-fn taken(n: u32, mask: u16, pick: u8) -> u32
-    requires { ⌜ n ≤ 10 ⌝ }
-    ensures { λ i. ⌜ i ≡ taken n mask pick ⌝ }
-{
-    let offered = Nav(mask).weight();
-    if offered == 0 {
-        return 0;
-    }
-    rank(n, mask, pick as u32 % offered)
 }
 
 // Whether an answer is a refusal.
@@ -140,7 +107,7 @@ impl Walk {
         let Step::Offered(mask) = answer else {
             return self.stop(answer);
         };
-        self.cross(taken(n, mask, pick))
+        self.cross(pick::taken(n, mask, pick))
     }
 }
 
@@ -192,7 +159,7 @@ fn depart(
     if promised == 0 {
         return start;
     }
-    let first = start.cross(taken(n, mask, picks[0]));
+    let first = start.cross(pick::taken(n, mask, picks[0]));
     onward(n, status, links, vectors, picks, first, promised)
 }
 
@@ -283,14 +250,10 @@ fn by_fill(
 
 // Whether there are picks for n + 1 hops and room for n + 2 path words.
 fn roomy(n: u32, picks: usize, path: usize) -> bool
-    requires { ⌜ n ≤ 10 ⌝ }
     ensures { λ r. ⌜ r ≡ (leb (n + 1) picks && leb (n + 2) path) ⌝ }
 {
     let hops = n as usize + 1;
-    if picks < hops {
-        return false;
-    }
-    hops + 1 <= path
+    (hops <= picks) & (hops + 1 <= path)
 }
 
 // The number by which Journey refuses before filling, 0 for none.
@@ -306,28 +269,14 @@ fn journey_refusal(
 ) -> u32
     ensures { λ r. ⌜ r ≡ journeyRefusal n (now (status .entry)) (now (links .entry)) (now (vectors .entry)) (now (picks .entry)) (now (path .entry)) (s .0) (d .0) ⌝ }
 {
-    if !report::dimension(n) {
-        return 1;
-    }
-    if !report::all_sized(n, status.len(), links.len(), vectors.len()) {
-        return 2;
-    }
-    if !roomy(n, picks.len(), path.len()) {
-        return 2;
-    }
-    if !report::narrow(n, links) {
-        return 3;
-    }
-    if !report::both_within(n, s.0, d.0) {
-        return 4;
-    }
-    if !report::works(status, s) {
-        return 5;
-    }
-    if !report::works(status, d) {
-        return 6;
-    }
-    0
+    let by_6 = refused_unless(report::works(status, d), 6, 0);
+    let by_5 = refused_unless(report::works(status, s), 5, by_6);
+    let by_4 = refused_unless(report::both_within(n, s.0, d.0), 4, by_5);
+    let by_3 = refused_unless(report::narrow(n, links), 3, by_4);
+    let sized = report::all_sized(n, status.len(), links.len(), vectors.len());
+    let roomy = roomy(n, picks.len(), path.len());
+    let by_2 = refused_unless(sized & roomy, 2, by_3);
+    refused_unless(report::dimension(n), 1, by_2)
 }
 
 // Journey: fills, decides and hops to the end, and writes the nodes from s to d into the lent path.

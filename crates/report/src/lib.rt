@@ -72,10 +72,7 @@ pub fn seen_from_both_ends()
 pub fn dimension(n: u32) -> bool
     ensures { λ r. ⌜ r ≡ dimension n ⌝ }
 {
-    if n < 1 {
-        return false;
-    }
-    n <= 10
+    (1 <= n) & (n <= 10)
 }
 
 // Whether a slice of this length has one entry for each node.
@@ -93,23 +90,14 @@ pub fn sized(n: u32, length: usize) -> bool
 pub fn all_sized(n: u32, a: usize, b: usize, c: usize) -> bool
     ensures { λ r. ⌜ r ≡ (eqb a (2 ^ n) && (eqb b (2 ^ n) && eqb c (2 ^ n))) ⌝ }
 {
-    if !sized(n, a) {
-        return false;
-    }
-    if !sized(n, b) {
-        return false;
-    }
-    sized(n, c)
+    sized(n, a) & (sized(n, b) & sized(n, c))
 }
 
 // Whether two numbers are below 2^n.
 pub fn both_within(n: u32, a: u16, b: u16) -> bool
     ensures { λ r. ⌜ r ≡ (within n a && within n b) ⌝ }
 {
-    if !within(n, a) {
-        return false;
-    }
-    within(n, b)
+    within(n, a) & within(n, b)
 }
 
 // Whether a number is below 2^n.

@@ -1,4 +1,2 @@
-pub mod Rules
-pub mod Refusals
 pub mod Decide
 pub mod Hop

@@ -1,6 +1,7 @@
 // Wu's two routing rules: the decision at the source, and the hop at a later node.
 use cube::Nav;
 use cube::Node;
+use cube::refused_unless;
 ghost use mathlib.Core.Path.{_≡_};
 ghost use mathlib.Core.Bool.{true, false};
 ghost use mathlib.Core.List.{List};
@@ -9,9 +10,11 @@ ghost use Prim.Native.Nat.{ℕ, _^_, _≤_, _<_};
 ghost use Rattle.cube.specs.Bits.{weight};
 ghost use Rattle.cube.specs.Reply.{numberOf, OneAnswer};
 ghost use Rattle.report.specs.Report.{cube};
-ghost use Rattle.vectors.specs.Held.{own};
-ghost use Rattle.routing.specs.Rules.{maskOf, hopsOf, offer, spare, choose, atSource, proceed, atNode};
-ghost use Rattle.routing.specs.Refusals.{routeRefusal};
+ghost use Rattle.held.specs.Held.{own};
+ghost use Rattle.rules.specs.Rules.{maskOf, hopsOf, offer, spare, choose, atSource, proceed, atNode};
+ghost use Rattle.rules.specs.Refusals.{routeRefusal};
+ghost use Rattle.rules.specs.Decide.{decide};
+ghost use Rattle.rules.specs.Hop.{hop};
 ghost use Rattle.routing.specs.Decide as deciding;
 ghost use Rattle.routing.specs.Hop as hopping;
 
@@ -83,10 +86,10 @@ impl Step {
 
 // The mask of the dimensions among dims whose neighbour of a has bit k, as registered at a.
 fn mask(n: u32, links: &[u16], vectors: &[u16], dims: u16, a: Node, k: u32) -> u16
-    requires { ⌜ (n ≤ 10) × (length (now links) ≡ 2 ^ n) × (length (now vectors) ≡ 2 ^ n) × (a .0 < 2 ^ n) × (k ≤ 16) ⌝ }
+    requires { ⌜ (n ≤ 10) × (length (now links) ≡ 2 ^ n) × (length (now vectors) ≡ 2 ^ n) × (a .0 < 2 ^ n) ⌝ }
     ensures { λ r. ⌜ ((status : List ℕ) → r ≡ offer (cube n status (now (links .entry))) (own (now (vectors .entry)) k) dims (a .0)) ⌝ }
 {
-    vectors::heard(n, links, vectors, a, k) & dims
+    held::heard(n, links, vectors, a, k) & dims
 }
 
 // The mask of the spare dimensions of a relative address.
@@ -132,7 +135,7 @@ fn at_source(n: u32, links: &[u16], vectors: &[u16], s: Node, nav: Nav) -> Decis
         return Decision::Accepted(Kind::Home);
     }
     let p = mask(n, links, vectors, nav.0, s, h - 1);
-    if vectors::own(vectors, s, h) == 1 {
+    if held::own(vectors, s, h) == 1 {
         return assured(p, h);
     }
     if p != 0 {
@@ -154,27 +157,17 @@ fn route_refusal(
 ) -> u32
     ensures { λ r. ⌜ r ≡ routeRefusal n (now (status .entry)) (now (links .entry)) (now (vectors .entry)) (a .0) b (d .0) ⌝ }
 {
-    if !report::dimension(n) {
-        return 1;
-    }
-    if !report::all_sized(n, status.len(), links.len(), vectors.len()) {
-        return 2;
-    }
-    if !report::both_within(n, a.0, b) {
-        return 4;
-    }
-    if !report::works(status, a) {
-        return 5;
-    }
-    if !report::works(status, d) {
-        return 6;
-    }
-    0
+    let by_6 = refused_unless(report::works(status, d), 6, 0);
+    let by_5 = refused_unless(report::works(status, a), 5, by_6);
+    let by_4 = refused_unless(report::both_within(n, a.0, b), 4, by_5);
+    let sized = report::all_sized(n, status.len(), links.len(), vectors.len());
+    let by_2 = refused_unless(sized, 2, by_4);
+    refused_unless(report::dimension(n), 1, by_2)
 }
 
 // Decide: the decision at a source s for a destination d, over lent vectors.
 pub fn decide(n: u32, status: &[u8], links: &[u16], vectors: &[u16], s: Node, d: Node) -> Decision
-    ensures { λ r. ⌜ deciding.said r ≡ deciding.decide n (now (status .entry)) (now (links .entry)) (now (vectors .entry)) (s .0) (d .0) ⌝ }
+    ensures { λ r. ⌜ deciding.said r ≡ decide n (now (status .entry)) (now (links .entry)) (now (vectors .entry)) (s .0) (d .0) ⌝ }
 {
     let number = route_refusal(n, status, links, vectors, s, d.0, d);
     if number != 0 {
@@ -207,7 +200,7 @@ fn at_node(n: u32, links: &[u16], vectors: &[u16], a: Node, nav: Nav) -> Step
 
 // Hop: the hop at a later node a with a relative address, over lent vectors.
 pub fn hop(n: u32, status: &[u8], links: &[u16], vectors: &[u16], a: Node, nav: Nav) -> Step
-    ensures { λ r. ⌜ hopping.said r ≡ hopping.hop n (now (status .entry)) (now (links .entry)) (now (vectors .entry)) (a .0) (nav .0) ⌝ }
+    ensures { λ r. ⌜ hopping.said r ≡ hop n (now (status .entry)) (now (links .entry)) (now (vectors .entry)) (a .0) (nav .0) ⌝ }
 {
     let number = route_refusal(n, status, links, vectors, a, nav.0, a.at(nav));
     if number != 0 {

@@ -11,7 +11,7 @@ use lib.Seq.{take-at, sets-eq, length-take-le}
 use Rattle.io.specs.Counts.{Counts}
 use Rattle.cube.specs.Reply.{Reply, refused, accepted}
 use Rattle.report.specs.Report.{cube}
-use Rattle.vectors.specs.Safety.{bitsOf}
+use Rattle.safety.specs.Safety.{bitsOf}
 use Rattle.record.specs.Open.{nIn, statusIn, linksIn, openRefusal, opened, statusAfter, linksAfter}
 use Rattle.record.proofs.Fields.{count-status, count-links}
 use Rattle.record.proofs.Refusals.{Readable, readable, after-reading, after-refusal, open-refusal-le}

@@ -13,9 +13,9 @@ use Rattle.report.specs.Class.{classOf}
 use Rattle.report.specs.Report.{cube, dimension, sized}
 use Rattle.report.specs.declared.Class.{Class}
 use Rattle.report.specs.declared.Class.the-variants.{Silent, Working, Late, Down, Empty}
-use Rattle.vectors.specs.Safety.{bitsOf, vectors}
+use Rattle.safety.specs.Safety.{bitsOf, vectors}
 use Rattle.vectors.specs.Fill.{fillRefusal, filled}
-use Rattle.vectors.proofs.Held.{own-safe}
+use Rattle.held.proofs.Held.{own-safe}
 use Rattle.text.specs.Text.{spell, decimal, joined}
 use Rattle.text.specs.Put.{held, Report}
 use Rattle.text.specs.Listing.{titled, named, line, cubeText, told}

@@ -9,7 +9,7 @@ use Rattle.report.specs.Class.{classOf}
 use Rattle.report.specs.Report.{cube}
 use Rattle.report.specs.declared.Class.{Class}
 use Rattle.report.specs.declared.Class.the-variants.{Silent, Working, Late, Down, Empty}
-use Rattle.vectors.specs.Safety.{bitsOf}
+use Rattle.safety.specs.Safety.{bitsOf}
 use Rattle.record.specs.Open.{statusIn, linksIn, opened}
 use Rattle.text.specs.Text.{spell, decimal, row, joined}
 

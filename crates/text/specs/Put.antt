@@ -7,7 +7,7 @@ use lib.ListN.{length, take}
 use lib.Seq.{sets}
 use Rattle.cube.specs.Reply.{Reply, refused, accepted}
 use Rattle.report.specs.Report.{narrow}
-use Rattle.vectors.specs.Held.{own}
+use Rattle.held.specs.Held.{own}
 use Rattle.text.specs.Listing.{told}
 
 -- the text stands from place at on, all other places are as before, and next is the place after it

@@ -68,7 +68,7 @@ fn put_bits(out: &mut [u8], at: usize, n: u32, vectors: &[u16], a: Node) -> usiz
 {
     let mut k: u32 = 0;
     while k < n {
-        out[at + k as usize] = b'0' + vectors::own(vectors, a, k + 1) as u8;
+        out[at + k as usize] = b'0' + held::own(vectors, a, k + 1) as u8;
         k += 1;
     }
     at + n as usize

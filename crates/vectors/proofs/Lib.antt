@@ -1,4 +1,2 @@
-pub mod Safety
-pub mod Held
 pub mod Rounds
 pub mod Accepted

@@ -19,10 +19,10 @@ use Rattle.cube.proofs.Table.{length-table, getD-table, table-ext, take-replica
 use Rattle.report.specs.Health.{Cube}
 use Rattle.report.specs.Report.{works, cut, cube, narrow}
 use Rattle.report.proofs.Report.{cut-none}
-use Rattle.vectors.specs.Safety.{registered, supported, safe, bitsOf, vector, vectors}
-use Rattle.vectors.specs.Held.{own}
+use Rattle.safety.specs.Safety.{registered, supported, safe, bitsOf, vector, vectors}
+use Rattle.held.specs.Held.{own}
 use Rattle.vectors.specs.Rounds.{upTo, after, digit, shown, Digits, faults, allFaults, masked, known}
-use Rattle.vectors.proofs.Safety.{recurrence, supported-cong, safe-cong}
+use Rattle.safety.proofs.Safety.{recurrence, supported-cong, safe-cong}
 
 pub record Midst (C : Cube) (k j : ℕ) (vs : List ℕ) : Type 0 where
   pub long : length vs ≡ 2 ^ (C .dim)

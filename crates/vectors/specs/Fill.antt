@@ -4,7 +4,7 @@ use mathlib.Core.Bool.{not, _&&_}
 use mathlib.Core.List.{List, [], _∷_}
 use Rattle.cube.specs.Reply.{Reply, refused, accepted, refusal, unless, kept}
 use Rattle.report.specs.Report.{cube, dimension, sized, narrow}
-use Rattle.vectors.specs.Safety.{vectors}
+use Rattle.safety.specs.Safety.{vectors}
 use Rattle.vectors.specs.declared.Filled.{Filled}
 use Rattle.vectors.specs.declared.Filled.the-variants.{Done, Refused}
 

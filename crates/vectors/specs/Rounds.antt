@@ -9,8 +9,8 @@ use Rattle.cube.specs.Count.{one, pack}
 use Rattle.cube.specs.Table.{table}
 use Rattle.report.specs.Health.{Cube}
 use Rattle.report.specs.Report.{works, cut}
-use Rattle.vectors.specs.Safety.{bitsOf}
-use Rattle.vectors.specs.Held.{own}
+use Rattle.safety.specs.Safety.{bitsOf}
+use Rattle.held.specs.Held.{own}
 
 -- bits 1 to k of node a
 unfoldable pub upTo : Cube → ℕ → ℕ → ℕ

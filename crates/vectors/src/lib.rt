@@ -1,17 +1,17 @@
-// Wu's safety vectors: what the boards hold, and Fill.
+// Wu's safety vectors: Fill.
 use cube::Node;
+use cube::refused_unless;
 ghost use mathlib.Core.Path.{_≡_};
 ghost use Prim.Native.Nat.{suc, _+_, _^_, _≤_, _<_};
 ghost use mathlib.Core.Bool.{_&&_};
 ghost use lib.ListN.{length, replicate};
-ghost use Rattle.cube.specs.Bits.{bit, flip};
-ghost use Rattle.cube.specs.Count.{one, pack, count};
+ghost use Rattle.cube.specs.Bits.{flip};
+ghost use Rattle.cube.specs.Count.{one, count};
 ghost use Rattle.cube.specs.Reply.{numberOf, OneAnswer};
 ghost use Rattle.cube.specs.Table.{table};
-ghost use Rattle.report.specs.Report.{works, cut, cube};
-ghost use Rattle.vectors.specs.Safety.{registered, supported};
-ghost use Rattle.vectors.specs.Held.{held, own, heard};
-ghost use Rattle.vectors.specs.Rounds.{after, digit, shown, Digits, faults, allFaults, masked, known};
+ghost use Rattle.report.specs.Report.{works, cube};
+ghost use Rattle.safety.specs.Safety.{registered, supported};
+ghost use Rattle.vectors.specs.Rounds.{after, digit, shown, Digits, allFaults, masked, known};
 ghost use Rattle.vectors.specs.Fill.{fillRefusal, fill, filled, said};
 
 // What Fill answers.
@@ -32,108 +32,6 @@ impl Filled {
     }
 }
 
-// Own bit k of node a, as 1 or 0; bit 0 is 1.
-pub fn own(vectors: &[u16], a: Node, k: u32) -> u32
-    ensures { λ r. ⌜ r ≡ one (own (now (vectors .entry)) k (a .0)) ⌝ }
-{
-    if k < 1 {
-        return 1;
-    }
-    let at = a.0 as usize;
-    if vectors.len() <= at {
-        return 0;
-    }
-    let word = vectors[at];
-    if 16 < k {
-        return 0;
-    }
-    (word >> (k - 1)) as u32 % 2
-}
-
-// The neighbour of a along dimension i + 1.
-fn across(a: usize, i: u32) -> usize
-    requires { ⌜ i < 16 ⌝ }
-    ensures { λ r. ⌜ r ≡ flip a (suc i) ⌝ }
-{
-    a ^ (1 << i)
-}
-
-// Whether a word has the bit of dimension i + 1: 1 or 0.
-fn marked(word: u16, i: u32) -> u32
-    requires { ⌜ i < 16 ⌝ }
-    ensures digit { λ r. ⌜ r ≡ one (bit word (suc i)) ⌝ }
-    ensures small { λ r. ⌜ r ≤ 1 ⌝ }
-{
-    (word >> i) as u32 % 2
-}
-
-// Bit k of a vector, as 1 or 0; bit 0, which is 1, is put below the others.
-fn bit_of(word: u16, k: u32) -> u32
-    requires { ⌜ k ≤ 16 ⌝ }
-    ensures digit { λ r. ⌜ r ≡ one (held word k) ⌝ }
-    ensures small { λ r. ⌜ r ≤ 1 ⌝ }
-{
-    ((word as u32 * 2 + 1) >> k) % 2
-}
-
-// Whether the link of a along dimension i + 1 counts as faulty, as 1 or 0.
-fn faulty(links: &[u16], a: usize, i: u32) -> u32
-    requires { ⌜ (i < 16) × (a < length (now links)) × (flip a (suc i) < length (now links)) ⌝ }
-    ensures digit { λ r. ⌜ r ≡ one (cut (now (links .entry)) a (suc i)) ⌝ }
-    ensures small { λ r. ⌜ r ≤ 1 ⌝ }
-{
-    let b = across(a, i);
-    let word = report::joint(links[a], links[b]);
-    marked(word, i)
-}
-
-// Bit k of a's neighbour along dimension i + 1, as registered at a, as 1 or 0.
-fn registered(links: &[u16], vectors: &[u16], a: usize, i: u32, k: u32) -> u32
-    requires { ⌜ (i < 16) × (k ≤ 16) × (a < length (now links)) × (flip a (suc i) < length (now links)) × (flip a (suc i) < length (now vectors)) ⌝ }
-    ensures digit { λ r. ⌜ r ≡ one (registered (cut (now (links .entry))) (own (now (vectors .entry)) k) a (suc i)) ⌝ }
-    ensures small { λ r. ⌜ r ≤ 1 ⌝ }
-{
-    let b = across(a, i);
-    (1 - faulty(links, a, i)) * bit_of(vectors[b], k)
-}
-
-// The mask of the dimensions 1 to n along which bit k is registered at a.
-fn registered_mask(n: u32, links: &[u16], vectors: &[u16], a: usize, k: u32) -> u16
-    requires { ⌜ (n ≤ 10) × (k ≤ 16) × (a < 2 ^ n) × (length (now links) ≡ 2 ^ n) × (length (now vectors) ≡ 2 ^ n) ⌝ }
-    ensures { λ r. ⌜ r ≡ pack (registered (cut (now (links .entry))) (own (now (vectors .entry)) k) a) n ⌝ }
-{
-    let mut mask: u16 = 0;
-    let mut i: u32 = 0;
-    while i < n {
-        let bit = registered(links, vectors, a, i, k) as u16;
-        mask = mask + (bit << i);
-        i += 1;
-    }
-    mask
-}
-
-// The mask of the dimensions along which bit k is registered at a; 0 where that can't be read.
-pub fn heard(n: u32, links: &[u16], vectors: &[u16], a: Node, k: u32) -> u16
-    ensures { λ r. ⌜ r ≡ heard n (now (links .entry)) (now (vectors .entry)) (a .0) k ⌝ }
-{
-    if 10 < n {
-        return 0;
-    }
-    if !report::sized(n, links.len()) {
-        return 0;
-    }
-    if !report::sized(n, vectors.len()) {
-        return 0;
-    }
-    if !report::within(n, a.0) {
-        return 0;
-    }
-    if 16 < k {
-        return 0;
-    }
-    registered_mask(n, links, vectors, a.0 as usize, k)
-}
-
 // All vectors 0, as before the first round.
 fn clear(vectors: &mut [u16])
     ensures { λ r. ⌜ now (vectors .exit) ≡ replicate (length (now (vectors .entry))) 0 ⌝ }
@@ -145,21 +43,6 @@ fn clear(vectors: &mut [u16])
     }
 }
 
-// The faulty links of node a along dimensions 1 to n, as a mask.
-fn faults(n: u32, links: &[u16], a: usize) -> u16
-    requires { ⌜ (n ≤ 10) × (a < 2 ^ n) × (length (now links) ≡ 2 ^ n) ⌝ }
-    ensures { λ r. ⌜ r ≡ faults n (now (links .entry)) a ⌝ }
-{
-    let mut mask: u16 = 0;
-    let mut i: u32 = 0;
-    while i < n {
-        let bit = faulty(links, a, i) as u16;
-        mask = mask + (bit << i);
-        i += 1;
-    }
-    mask
-}
-
 // The faulty links of every node.
 fn all_faults(n: u32, links: &[u16], masks: &mut [u16])
     requires { ⌜ (n ≤ 10) × (length (now masks) ≡ 2 ^ n) × (length (now links) ≡ 2 ^ n) ⌝ }
@@ -167,7 +50,8 @@ fn all_faults(n: u32, links: &[u16], masks: &mut [u16])
 {
     let mut a: usize = 0;
     while a < masks.len() {
-        masks[a] = faults(n, links, a);
+        let number = a as u16;
+        masks[a] = held::faulty_links(n, links, Node(number));
         a += 1;
     }
 }
@@ -190,7 +74,7 @@ fn show(vectors: &[u16], bytes: &mut [u8], k: u32)
 {
     let mut a: usize = 0;
     while a < bytes.len() {
-        bytes[a] = bit_of(vectors[a], k) as u8;
+        bytes[a] = held::bit_of(vectors[a], k) as u8;
         a += 1;
     }
 }
@@ -201,7 +85,7 @@ fn shown(bytes: &[u8], a: usize, i: u32) -> u32
     ensures digit { λ r. ⌜ r ≡ one (registered (masked 0) (shown (now (bytes .entry))) a (suc i)) ⌝ }
     ensures small { λ r. ⌜ r ≤ 1 ⌝ }
 {
-    let b = across(a, i);
+    let b = a ^ (1 << i);
     bytes[b] as u32
 }
 
@@ -211,7 +95,7 @@ fn shown_past(mask: u16, bytes: &[u8], a: usize, i: u32) -> u32
     ensures digit { λ r. ⌜ r ≡ one (registered (masked mask) (shown (now (bytes .entry))) a (suc i)) ⌝ }
     ensures small { λ r. ⌜ r ≤ 1 ⌝ }
 {
-    (1 - marked(mask, i)) * shown(bytes, a, i)
+    (1 - held::bit_of(mask, i + 1)) * shown(bytes, a, i)
 }
 
 // How many of a's neighbours along dimensions 1 to n are registered with the bit shown, by a's faulty links.
@@ -399,16 +283,10 @@ fn write_vectors(n: u32, status: &[u8], links: &[u16], vectors: &mut [u16])
 fn fill_refusal(n: u32, status: &[u8], links: &[u16], vectors: &[u16]) -> u32
     ensures { λ r. ⌜ r ≡ fillRefusal n (now (status .entry)) (now (links .entry)) (now (vectors .entry)) ⌝ }
 {
-    if !report::dimension(n) {
-        return 1;
-    }
-    if !report::all_sized(n, status.len(), links.len(), vectors.len()) {
-        return 2;
-    }
-    if !report::narrow(n, links) {
-        return 3;
-    }
-    0
+    let by_3 = refused_unless(report::narrow(n, links), 3, 0);
+    let sized = report::all_sized(n, status.len(), links.len(), vectors.len());
+    let by_2 = refused_unless(sized, 2, by_3);
+    refused_unless(report::dimension(n), 1, by_2)
 }
 
 // Fill: writes all 2^n vectors into the lent slice.

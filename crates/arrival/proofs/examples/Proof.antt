@@ -1,8 +1,8 @@
 -- The walks hold by computation.
 use mathlib.Core.Path.{refl}
-use Rattle.vectors.specs.Safety.{vectors}
-use Rattle.routing.specs.Decide.{decide}
-use Rattle.routing.specs.Hop.{hop}
+use Rattle.safety.specs.Safety.{vectors}
+use Rattle.rules.specs.Decide.{decide}
+use Rattle.rules.specs.Hop.{hop}
 use Rattle.arrival.specs.Walk.{source, go, answer}
 use Rattle.arrival.specs.Examples.{Examples}
 use Rattle.arrival.proofs.examples.Statement.{statement}

@@ -6,7 +6,7 @@ use denote.Ref.{now}
 use Rattle.cube.specs.Reply.{Reply}
 use Rattle.routing.specs.declared.Decision.{Decision}
 use Rattle.routing.specs.Decide.{said}
-use Rattle.routing.proofs.Decided.{decide-hops}
+use Rattle.rules.proofs.Decided.{decide-hops}
 use Rattle.journey.specs.Journey.{leave, leaving, Route, routeBy, arrival, depart, pathBy}
 use Rattle.journey.proofs.by_decision.Statement.{statement}
 use Rattle.journey.proofs.by_decision.Tie as tie

@@ -5,7 +5,7 @@ use denote.Ref.{now}
 use Rattle.cube.specs.Reply.{Reply}
 use Rattle.cube.proofs.Reply.{refused-accepted}
 use Rattle.vectors.specs.Fill.{said}
-use Rattle.routing.specs.Rules.{Choice}
+use Rattle.rules.specs.Rules.{Choice}
 use Rattle.journey.specs.Journey.{leaving, depart, arrival, pathBy}
 use Rattle.journey.proofs.by_fill.Statement.{statement}
 use Rattle.journey.proofs.by_fill.Tie as tie

@@ -7,9 +7,10 @@ use borrow.Author.Needs.{needs}
 use denote.Ref.{now}
 use Rattle.cube.specs.declared.Node.{Node}
 use Rattle.cube.specs.declared.Nav.{Nav}
+use Rattle.pick.proofs.Pick.{taken-le}
 use Rattle.journey.specs.Journey.{leave}
 use Rattle.journey.specs.Walk.{Crossed}
-use Rattle.journey.proofs.Walks.{taken-le, leave-first}
+use Rattle.journey.proofs.Walks.{leave-first}
 use Rattle.journey.proofs.depart.Statement.{statement}
 use Rattle.journey.proofs.depart.Tie as tie
 

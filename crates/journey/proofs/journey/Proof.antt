@@ -6,7 +6,7 @@ use borrow.Author.Needs.{needs}
 use denote.Ref.{now}
 use Rattle.cube.specs.Reply.{Reply, refused}
 use Rattle.vectors.specs.Fill.{fillRefusal, fill, filled}
-use Rattle.routing.specs.Decide.{decide}
+use Rattle.rules.specs.Decide.{decide}
 use Rattle.cube.proofs.Reply.{unless-some, unless-none, kept-some, kept-none}
 use Rattle.journey.specs.Journey.{Route, depart, leaving, route, journeyRefusal, journey, arrival, vectorsAfter, pathBy, pathAfter}
 use Rattle.journey.proofs.Refusals.{clear-of-none}

@@ -6,7 +6,7 @@ use borrow.Author.Needs.{needs}
 use lib.ListN.{getD, take}
 use denote.Ref.{now}
 use Rattle.cube.specs.Reply.{Reply}
-use Rattle.routing.specs.Rules.{Next}
+use Rattle.rules.specs.Rules.{Next}
 use Rattle.journey.specs.Journey.{hops}
 use Rattle.journey.specs.Walk.{Followed, through}
 use Rattle.journey.proofs.Walks.{Under, under-next, under-over, under-end}

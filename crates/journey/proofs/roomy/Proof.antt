@@ -2,7 +2,6 @@
 use mathlib.Core.Path.{_≡_}
 use Prim.Native.Nat.{_+_}
 use native.Mathlib.Omega.{arith}
-use borrow.Author.Tests.{le-leb, lt-leb}
 use borrow.Author.Needs.{needs}
 use Rattle.journey.proofs.roomy.Statement.{statement}
 use Rattle.journey.proofs.roomy.Tie as tie
@@ -10,17 +9,13 @@ use Rattle.journey.proofs.roomy.Tie as tie
 add-hops : tie.Need-add-hops
 add-hops c = search needs
 
-returns : tie.Need-returns
-returns c = rw (lt-leb _ _ (c .if1 .taken))
-
 add-result : tie.Need-add-result
 add-result c = search needs
 
-returns-2 : tie.Need-returns-2
-returns-2 c =
-    let a = c .before .args in
-    let e : a .n + 1 + 1 ≡ a .n + 2 = omega arith in
-    rw (le-leb (a .n + 1) (a .picks) (c .if1 .left), e)
+returns : tie.Need-returns
+returns c =
+    let e : c .args .n + 1 + 1 ≡ c .args .n + 2 = omega arith in
+    rw e
 
 pub roomy-spec : {M : Type 1} → statement M
-roomy-spec = tie.close (tie.spec add-hops returns add-result returns-2)
+roomy-spec = tie.close (tie.spec add-hops add-result returns)

@@ -1,7 +1,7 @@
 -- `routing::assured` meets its contract.
 use mathlib.Core.Path.{sym}
-use Rattle.routing.specs.Rules.{choose}
-use Rattle.routing.proofs.Rules.{choose-assured}
+use Rattle.rules.specs.Rules.{choose}
+use Rattle.rules.proofs.Rules.{choose-assured}
 use Rattle.routing.proofs.assured.Statement.{statement}
 use Rattle.routing.proofs.assured.Tie as tie
 

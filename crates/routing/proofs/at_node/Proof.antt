@@ -1,13 +1,11 @@
 -- `routing::at_node` meets its contract: Wu's rule at a later node.
 use mathlib.Core.Path.{ap, sym, _∙_}
-use native.Mathlib.Omega.{arith}
 use borrow.Author.Needs.{needs}
 use denote.Ref.{now}
-use Rattle.cube.proofs.Count.{weight-le}
 use Rattle.report.specs.Report.{cube}
-use Rattle.vectors.specs.Held.{own}
-use Rattle.routing.specs.Rules.{proceed, atNode}
-use Rattle.routing.proofs.Rules.{node-away}
+use Rattle.held.specs.Held.{own}
+use Rattle.rules.specs.Rules.{proceed, atNode}
+use Rattle.rules.proofs.Rules.{node-away}
 use Rattle.routing.proofs.at_node.Statement.{statement}
 use Rattle.routing.proofs.at_node.Tie as tie
 
@@ -22,10 +20,7 @@ sub-mask : tie.Need-sub-mask
 sub-mask c = search needs
 
 mask-requires : tie.Need-mask-requires
-mask-requires c κs =
-    let s = c .before .before .before .before in
-    let p = s .pre in
-    (p .0, omega (arith, p .1, p .2), omega (arith, p .1, p .2), p .3, omega (arith, c .before .weight .ensures, weight-le (s .args .n) (s .args .nav .0) (p .4)))
+mask-requires c κs = search needs
 
 proceed-requires : tie.Need-proceed-requires
 proceed-requires c κs = search needs

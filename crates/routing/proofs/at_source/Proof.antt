@@ -7,9 +7,9 @@ use borrow.Author.Needs.{needs}
 use denote.Ref.{now}
 use Rattle.cube.proofs.Count.{one-true, one-false, weight-le}
 use Rattle.report.specs.Report.{cube}
-use Rattle.vectors.specs.Held.{own}
-use Rattle.routing.specs.Rules.{offer, spare, choose, atSource}
-use Rattle.routing.proofs.Rules.{choose-lent, source-away}
+use Rattle.held.specs.Held.{own}
+use Rattle.rules.specs.Rules.{offer, spare, choose, atSource}
+use Rattle.rules.proofs.Rules.{choose-lent, source-away}
 use Rattle.routing.proofs.at_source.Statement.{statement}
 use Rattle.routing.proofs.at_source.Tie as tie
 
@@ -24,10 +24,7 @@ sub-mask : tie.Need-sub-mask
 sub-mask c = search needs
 
 mask-requires : tie.Need-mask-requires
-mask-requires c κs =
-    let s = c .before .before .before .before in
-    let p = s .pre in
-    (p .0, p .1, p .2, p .3, omega (arith, c .before .weight .ensures, weight-le (s .args .n) (s .args .nav .0) (p .4)))
+mask-requires c κs = search needs
 
 own-requires : tie.Need-own-requires
 own-requires c κs = search needs
@@ -72,10 +69,7 @@ add-mask : tie.Need-add-mask
 add-mask c = omega (arith, c .before .before .before .before .before .before .weight .ensures, weight-le (c .before .before .before .before .before .before .before .before .before .args .n) (c .before .before .before .before .before .before .before .before .before .args .nav .0) (c .before .before .before .before .before .before .before .before .before .pre .4))
 
 mask-requires-2 : tie.Need-mask-requires-2
-mask-requires-2 c κs =
-    let s = c .before .before .before .before .before .before .before .before .before in
-    let p = s .pre in
-    (p .0, p .1, p .2, p .3, omega (arith, c .before .before .before .before .before .before .weight .ensures, weight-le (s .args .n) (s .args .nav .0) (p .4)))
+mask-requires-2 c κs = search needs
 
 detour-requires : tie.Need-detour-requires
 detour-requires c κs = omega (arith, c .before .before .before .before .before .before .before .weight .ensures, weight-le (c .before .before .before .before .before .before .before .before .before .before .args .n) (c .before .before .before .before .before .before .before .before .before .before .args .nav .0) (c .before .before .before .before .before .before .before .before .before .before .pre .4))

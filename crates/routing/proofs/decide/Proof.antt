@@ -9,11 +9,11 @@ use Rattle.cube.specs.Reply.{refused}
 use Rattle.cube.proofs.Reply.{unless-some, unless-none}
 use Rattle.report.specs.Report.{cube}
 use Rattle.report.proofs.Report.{dimension-range}
-use Rattle.vectors.specs.Held.{own}
-use Rattle.routing.specs.Rules.{atSource}
-use Rattle.routing.specs.Refusals.{routeRefusal}
-use Rattle.routing.specs.Decide.{decide}
-use Rattle.routing.proofs.Refusals.{clear-of-none, clear-lengths}
+use Rattle.held.specs.Held.{own}
+use Rattle.rules.specs.Rules.{atSource}
+use Rattle.rules.specs.Refusals.{routeRefusal}
+use Rattle.rules.specs.Decide.{decide}
+use Rattle.rules.proofs.Refusals.{clear-of-none, clear-lengths}
 use Rattle.routing.proofs.decide.Statement.{statement}
 use Rattle.routing.proofs.decide.Tie as tie
 

@@ -1,8 +1,8 @@
 -- `routing::detour` meets its contract.
 use mathlib.Core.Path.{sym}
 use borrow.Author.Needs.{needs}
-use Rattle.routing.specs.Rules.{choose}
-use Rattle.routing.proofs.Rules.{choose-detour}
+use Rattle.rules.specs.Rules.{choose}
+use Rattle.rules.proofs.Rules.{choose-detour}
 use Rattle.routing.proofs.detour.Statement.{statement}
 use Rattle.routing.proofs.detour.Tie as tie
 

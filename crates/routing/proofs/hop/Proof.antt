@@ -6,9 +6,9 @@ use denote.Ref.{now}
 use Rattle.cube.specs.Reply.{refused}
 use Rattle.cube.proofs.Reply.{unless-some, unless-none}
 use Rattle.report.proofs.Report.{dimension-range}
-use Rattle.routing.specs.Refusals.{routeRefusal}
-use Rattle.routing.specs.Hop.{hop}
-use Rattle.routing.proofs.Refusals.{clear-of-none, clear-lengths}
+use Rattle.rules.specs.Refusals.{routeRefusal}
+use Rattle.rules.specs.Hop.{hop}
+use Rattle.rules.proofs.Refusals.{clear-of-none, clear-lengths}
 use Rattle.routing.proofs.hop.Statement.{statement}
 use Rattle.routing.proofs.hop.Tie as tie
 

@@ -6,10 +6,10 @@ use lib.Bits.{bitAnd}
 use denote.Ref.{now}
 use Rattle.cube.proofs.Count.{pack-and}
 use Rattle.report.specs.Report.{cut, cube}
-use Rattle.vectors.specs.Safety.{registered}
-use Rattle.vectors.specs.Held.{own}
-use Rattle.vectors.proofs.Held.{heard-at}
-use Rattle.routing.specs.Rules.{borne, offer}
+use Rattle.safety.specs.Safety.{registered}
+use Rattle.held.specs.Held.{own}
+use Rattle.held.proofs.Held.{heard-at}
+use Rattle.rules.specs.Rules.{borne, offer}
 use Rattle.routing.proofs.mask.Statement.{statement}
 use Rattle.routing.proofs.mask.Tie as tie
 
@@ -22,7 +22,7 @@ returns c = λ status.
     let s = c .before .before .before in
     let a = s .args in
     let p = s .pre in
-    ap (λ (x : ℕ). bitAnd x (a .dims)) (c .heard .ensures ∙ heard-at (a .n) (now (a .links)) (now (a .vectors)) (a .a .0) (a .k) (p .0) (p .1) (p .2) (p .3) (p .4))
+    ap (λ (x : ℕ). bitAnd x (a .dims)) (c .heard .ensures ∙ heard-at (a .n) (now (a .links)) (now (a .vectors)) (a .a .0) (a .k) (p .0) (p .1) (p .2) (p .3))
     ∙ pack-and (registered (cut (now (a .links))) (own (now (a .vectors)) (a .k)) (a .a .0)) (a .dims) (a .n)
 
 pub mask-spec : {M : Type 1} → statement M

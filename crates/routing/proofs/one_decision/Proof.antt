@@ -2,7 +2,7 @@
 use mathlib.Core.Path.{_≡_, refl}
 use Rattle.cube.specs.Reply.{Reply, refused, accepted}
 use Rattle.cube.proofs.Reply.{one-answer}
-use Rattle.routing.specs.Rules.{Choice, home, assured, lent, detour}
+use Rattle.rules.specs.Rules.{Choice, home, assured, lent, detour}
 use Rattle.routing.specs.Decide.{said}
 use Rattle.routing.specs.declared.Kind.the-variants.{Home, Assured, Lent, Detour}
 use Rattle.routing.specs.declared.Decision.{Decision}

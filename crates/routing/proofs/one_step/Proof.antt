@@ -2,7 +2,7 @@
 use mathlib.Core.Path.{_≡_, refl}
 use Rattle.cube.specs.Reply.{Reply, refused, accepted}
 use Rattle.cube.proofs.Reply.{one-answer}
-use Rattle.routing.specs.Rules.{Next, arrived, onward}
+use Rattle.rules.specs.Rules.{Next, arrived, onward}
 use Rattle.routing.specs.Hop.{said}
 use Rattle.routing.specs.declared.Step.{Step}
 use Rattle.routing.specs.declared.Step.the-variants.{Arrived, Offered, Refused}

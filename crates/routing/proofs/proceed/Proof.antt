@@ -1,7 +1,7 @@
 -- `routing::proceed` meets its contract.
 use mathlib.Core.Path.{sym}
-use Rattle.routing.specs.Rules.{proceed}
-use Rattle.routing.proofs.Rules.{proceed-some}
+use Rattle.rules.specs.Rules.{proceed}
+use Rattle.rules.proofs.Rules.{proceed-some}
 use Rattle.routing.proofs.proceed.Statement.{statement}
 use Rattle.routing.proofs.proceed.Tie as tie
 

@@ -5,7 +5,7 @@ use native.Mathlib.Omega.{arith}
 use borrow.Author.Needs.{needs}
 use lib.Pow.{pow-pos}
 use Rattle.cube.proofs.Bits.{pow-shift}
-use Rattle.routing.proofs.Rules.{spare-rest}
+use Rattle.rules.proofs.Rules.{spare-rest}
 use Rattle.routing.proofs.spare.Statement.{statement}
 use Rattle.routing.proofs.spare.Tie as tie
 

@@ -8,7 +8,7 @@ use lib.Seq.{sets, length-sets}
 use denote.Ref.{now}
 use Rattle.cube.specs.Count.{one}
 use Rattle.cube.proofs.Count.{one-le}
-use Rattle.vectors.specs.Held.{own}
+use Rattle.held.specs.Held.{own}
 use Rattle.text.specs.Text.{row}
 use Rattle.text.specs.Put.{held}
 use Rattle.text.proofs.Placing.{put-byte}

@@ -4,9 +4,11 @@ use Prim.Native.Nat.{_-_, _≤_}
 use native.Mathlib.Omega.{arith}
 use borrow.Author.Needs.{needs}
 use denote.Ref.{now}
+use lib.Pow.{pow-mono}
 use lib.ListN.{length, length-set}
 use Rattle.cube.specs.Table.{table}
 use Rattle.cube.proofs.Table.{written, written-none, written-next, written-all}
+use Rattle.held.proofs.Held.{faultyLinks-at}
 use Rattle.vectors.specs.Rounds.{faults, allFaults}
 use Rattle.vectors.proofs.all_faults.Statement.{statement}
 use Rattle.vectors.proofs.all_faults.Tie as tie
@@ -20,10 +22,13 @@ abbrev μ-loop : tie.MeasureT-loop
 loop-holds : tie.Need-loop-holds Inv-loop μ-loop
 loop-holds c = (omega arith, refl, written-none _ _)
 
-faults-requires : tie.Need-faults-requires Inv-loop μ-loop
-faults-requires c κs =
+cast-number : tie.Need-cast-number Inv-loop μ-loop
+cast-number c =
     let s = c .before .before .before .before in
-    (s .pre .0, omega (arith, s .pre .1), s .pre .2)
+    omega (arith, s .pre .1, pow-mono {i = s .args .n} {j = 10} (s .pre .0))
+
+faulty-links-requires : tie.Need-faulty-links-requires Inv-loop μ-loop
+faulty-links-requires c κs = search needs
 
 mul-masks : tie.Need-mul-masks Inv-loop μ-loop
 mul-masks c = search needs
@@ -38,10 +43,12 @@ loop-less : tie.Need-loop-less Inv-loop μ-loop
 loop-less c = simp length-set (omega arith)
 
 loop-again : tie.Need-loop-again Inv-loop μ-loop
+unfolding faults
 loop-again c =
-    let a = c .before .before .before .before .before .args in
+    let s = c .before .before .before .before .before in
+    let a = s .args in
     let l = c .before .before .loop in
-    (omega arith, simp length-set (omega arith), written-next (faults (a .n) (now (a .links))) (now (a .masks)) (l .masks) (l .a) _ (omega arith) (l .inv .2) (c .faults .ensures))
+    (omega arith, simp length-set (omega arith), written-next (faults (a .n) (now (a .links))) (now (a .masks)) (l .masks) (l .a) _ (omega arith) (l .inv .2) (c .faulty-links .ensures ∙ faultyLinks-at (a .n) (now (a .links)) (l .a) (s .pre .0) (s .pre .2) (omega (arith, s .pre .1))))
 
 same-length : tie.Need-same-length Inv-loop μ-loop
 same-length c = search needs
@@ -60,7 +67,8 @@ all-faults-spec =
     Inv-loop
     μ-loop
     loop-holds
-    faults-requires
+    cast-number
+    faulty-links-requires
     mul-masks
     slice-write-masks
     add-a

@@ -7,7 +7,7 @@ use Rattle.cube.specs.Bits.{flip}
 use Rattle.cube.proofs.Bits.{flip-lt}
 use Rattle.cube.proofs.Count.{count-five}
 use lib.ListN.{length}
-use Rattle.vectors.specs.Safety.{registered}
+use Rattle.safety.specs.Safety.{registered}
 use Rattle.vectors.specs.Rounds.{shown, masked, Digits}
 use Rattle.vectors.proofs.five.Statement.{statement}
 use Rattle.vectors.proofs.five.Tie as tie

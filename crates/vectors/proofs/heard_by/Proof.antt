@@ -5,7 +5,7 @@ use native.Mathlib.Omega.{arith}
 use borrow.Author.Needs.{needs}
 use denote.Ref.{now}
 use Rattle.cube.specs.Count.{count}
-use Rattle.vectors.specs.Safety.{registered}
+use Rattle.safety.specs.Safety.{registered}
 use Rattle.vectors.specs.Rounds.{shown, masked}
 use Rattle.vectors.proofs.heard_by.Statement.{statement}
 use Rattle.vectors.proofs.heard_by.Tie as tie

@@ -8,9 +8,9 @@ use borrow.Author.Needs.{needs}
 use denote.Ref.{now}
 use lib.Pow.{pow-mono}
 use Rattle.cube.specs.Count.{one}
-use Rattle.vectors.specs.Safety.{registered, supported}
+use Rattle.safety.specs.Safety.{registered, supported}
 use Rattle.vectors.specs.Rounds.{shown, known}
-use Rattle.vectors.proofs.Safety.{too-few, enough}
+use Rattle.safety.proofs.Safety.{too-few, enough}
 use Rattle.vectors.proofs.next_bit.Statement.{statement}
 use Rattle.vectors.proofs.next_bit.Tie as tie
 

@@ -5,7 +5,7 @@ use native.Mathlib.Omega.{arith}
 use borrow.Author.Needs.{needs}
 use denote.Ref.{now}
 use Rattle.cube.proofs.Table.{written, written-none, written-next, written-all}
-use Rattle.vectors.specs.Held.{own}
+use Rattle.held.specs.Held.{own}
 use lib.ListN.{length, length-set}
 use Rattle.cube.specs.Table.{table}
 use Rattle.vectors.specs.Rounds.{digit}

@@ -1,6 +1,7 @@
 -- `vectors::shown_past` meets its contract.
 use mathlib.Core.Path.{ap, _∙_}
 use Prim.Native.Nat.{suc, _-_}
+use native.Mathlib.Numerals.{add-one}
 use native.Mathlib.Omega.{arith}
 use borrow.Author.Needs.{needs}
 use denote.Ref.{now}
@@ -8,16 +9,20 @@ use native.Mathlib.Nat.{lt-of-le-of-lt}
 use Rattle.cube.specs.Count.{one}
 use Rattle.cube.proofs.Count.{unless-le}
 use Rattle.vectors.specs.Rounds.{shown, masked}
-use Rattle.vectors.proofs.Safety.{registered-digit}
+use Rattle.held.specs.Held.{held}
+use Rattle.safety.proofs.Safety.{registered-digit}
 use Rattle.vectors.proofs.Rounds.{registered-all}
 use Rattle.vectors.proofs.shown_past.Statement.{statement}
 use Rattle.vectors.proofs.shown_past.Tie as tie
 
-marked-requires : tie.Need-marked-requires
-marked-requires c κs = search needs
+add-bit-of : tie.Need-add-bit-of
+add-bit-of c = search needs
+
+bit-of-requires : tie.Need-bit-of-requires
+bit-of-requires c κs = search needs
 
 sub-result : tie.Need-sub-result
-sub-result c = c .marked .ensures .1
+sub-result c = c .bit-of .ensures .1
 
 shown-requires : tie.Need-shown-requires
 shown-requires c κs = search needs
@@ -26,12 +31,12 @@ mul-result : tie.Need-mul-result
 mul-result c = record { fits = lt-of-le-of-lt (unless-le _ _ (c .shown .ensures .1)) (omega arith) }
 
 returns : tie.Need-returns
-unfolding masked
+unfolding masked held
 returns c =
     let a = c .before .before .before .args in (
-      registered-digit (masked (a .mask)) (shown (now (a .bytes))) (a .a) (suc (a .i)) _ _ (c .before .marked .ensures .0) (c .shown .ensures .0 ∙ ap one (registered-all (shown (now (a .bytes))) (a .a) (suc (a .i)))),
+      registered-digit (masked (a .mask)) (shown (now (a .bytes))) (a .a) (suc (a .i)) _ _ (rw add-one at (c .before .bit-of .ensures .0)) (c .shown .ensures .0 ∙ ap one (registered-all (shown (now (a .bytes))) (a .a) (suc (a .i)))),
       unless-le _ _ (c .shown .ensures .1),
     )
 
 pub shown-past-spec : {M : Type 1} → statement M
-shown-past-spec = tie.close (tie.spec marked-requires sub-result shown-requires mul-result returns)
+shown-past-spec = tie.close (tie.spec add-bit-of bit-of-requires sub-result shown-requires mul-result returns)

@@ -7,7 +7,7 @@ use denote.Ref.{now}
 use Rattle.cube.specs.Count.{count}
 use Rattle.cube.proofs.Bits.{flip-lt}
 use Rattle.cube.proofs.Count.{count-le, count-more}
-use Rattle.vectors.specs.Safety.{registered}
+use Rattle.safety.specs.Safety.{registered}
 use Rattle.vectors.specs.Rounds.{shown, masked}
 use Rattle.vectors.proofs.sum_sound.Statement.{statement}
 use Rattle.vectors.proofs.sum_sound.Tie as tie

@@ -7,7 +7,7 @@ use borrow.Author.Needs.{needs}
 use denote.Ref.{now}
 use Rattle.cube.specs.Count.{count}
 use Rattle.cube.proofs.Count.{count-le}
-use Rattle.vectors.specs.Safety.{registered}
+use Rattle.safety.specs.Safety.{registered}
 use Rattle.vectors.specs.Rounds.{shown, masked}
 use Rattle.vectors.proofs.ten.Statement.{statement}
 use Rattle.vectors.proofs.ten.Tie as tie

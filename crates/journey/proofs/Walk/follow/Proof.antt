@@ -5,8 +5,9 @@ use native.Mathlib.Nat.{le-trans, le-of-eq}
 use borrow.Author.Needs.{needs}
 use Rattle.routing.specs.declared.Step.{Step}
 use Rattle.routing.specs.Hop.{said}
+use Rattle.pick.proofs.Pick.{taken-le}
 use Rattle.journey.specs.Walk.{Crossed, Followed}
-use Rattle.journey.proofs.Walks.{taken-le, stop-follows}
+use Rattle.journey.proofs.Walks.{stop-follows}
 use Rattle.journey.proofs.Walk.follow.Statement.{statement}
 use Rattle.journey.proofs.Walk.follow.Tie as tie
 

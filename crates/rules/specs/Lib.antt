@@ -1,0 +1,4 @@
+pub mod Rules
+pub mod Refusals
+pub mod Decide
+pub mod Hop
