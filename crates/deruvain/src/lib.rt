@@ -19,7 +19,8 @@ ghost use Rattle.routing.specs.Decide as deciding;
 ghost use Rattle.routing.specs.Hop as hopping;
 ghost use Rattle.journey.specs.Journey as travelling;
 ghost use Rattle.record.specs.Open as opening;
-ghost use Rattle.log.specs.Refresh as refreshing;
+ghost use Rattle.log_rules.specs.Refresh as refreshing;
+ghost use Rattle.log.specs.Answer as logging;
 ghost use Rattle.deruvain.specs.Door.{classNumber, kindNumber, Says, Decided, Hopped, Travelled, Read, Skipped};
 
 // A job's answer: the refusal's number, 0 for an acceptance, and the acceptance's numbers, 0 after a refusal.
@@ -231,7 +232,7 @@ pub extern "C" fn deruvain_open(bytes: &[u8], status: &mut [u8], links: &mut [u1
 
 // Refresh's answer as numbers.
 fn of_refreshed(refreshed: Refreshed) -> Refresh
-    ensures { λ r. ⌜ Skipped r (refreshing.said refreshed) ⌝ }
+    ensures { λ r. ⌜ Skipped r (logging.said refreshed) ⌝ }
 {
     match refreshed {
         Refreshed::Done(skipped) => Refresh {

@@ -1,6 +1,1 @@
-pub mod Records
-pub mod Bytes
-pub mod Refusals
-pub mod Updates
-pub mod Order
 pub mod Sweeps

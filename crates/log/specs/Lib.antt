@@ -1,5 +1,2 @@
-pub mod Log
-pub mod Refresh
-pub mod Claims
-pub mod Sound
+pub mod Answer
 pub mod Sweep

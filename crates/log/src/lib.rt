@@ -1,21 +1,17 @@
 // The controller's status log: status bytes made from its records.
+use cube::refused_unless;
 use record::word_at;
 ghost use mathlib.Core.Path.{_≡_};
 ghost use mathlib.Core.Bool.{true, cond};
-ghost use mathlib.Core.List.{[], _∷_};
 ghost use Prim.Native.Nat.{_<_};
 ghost use lib.Dec.{leb};
 ghost use lib.ListN.{length, getD, set, replicate};
-ghost use Rattle.cube.specs.Count.{one};
 ghost use Rattle.cube.specs.Reply.{OneAnswer, refusal};
-ghost use Rattle.log.specs.Log.{records, nodeIn, age, skipped, ageByte};
-ghost use Rattle.log.specs.Refresh.{tests, logRefusal, refreshed, statusAfter, younger, updated, updateAfter, said};
-ghost use Rattle.log.specs.Sound.{sound};
+ghost use Rattle.log_rules.specs.Log.{records, nodeIn, skipped, ageByte};
+ghost use Rattle.log_rules.specs.Refresh.{tests, logRefusal, refreshed, statusAfter, younger, updated, updateAfter};
+ghost use Rattle.log_rules.specs.Sound.{sound};
+ghost use Rattle.log.specs.Answer.{said};
 ghost use Rattle.log.specs.Sweep.{sweepIn};
-ghost use Rattle.log.specs.Claims.{AnyOrder, UnheardIsLost, InParts, FromSilence};
-
-// A record's length and kind as one number: 6, and 2 above it.
-const HEAD: u32 = 6 + 65536 * 2;
 
 // What Refresh answers: how many records from the future were skipped, or the refusal's number.
 pub enum Refreshed {
@@ -29,63 +25,6 @@ pub enum Sweep {
     NoNumber,
 }
 
-// A record's age: the present sweep less its own, wrapping.
-fn age(row: &[u8], sweep: u16) -> u16
-    ensures { λ r. ⌜ r ≡ age sweep (now (row .entry)) ⌝ }
-{
-    std::num::wrapping_sub_u16(sweep, word_at(row, 4))
-}
-
-// 1 for an age from the future, else 0.
-fn skip(age: u16) -> usize
-    ensures { λ r. ⌜ r ≡ one (leb 32768 age) ⌝ }
-{
-    (age / 32768) as usize
-}
-
-// The status byte of an age, 0 for one from the future.
-fn byte_of(age: u16) -> u8
-    ensures { λ r. ⌜ r ≡ cond (leb 32768 age) 0 (ageByte age) ⌝ }
-{
-    if 32768 <= age {
-        return 0;
-    }
-    if 252 < age {
-        return 253;
-    }
-    age as u8 + 1
-}
-
-// The younger of two status bytes, 0 being none.
-fn younger(b: u8, c: u8) -> u8
-    ensures { λ r. ⌜ r ≡ younger b c ⌝ }
-{
-    if b == 0 {
-        return c;
-    }
-    if c == 0 {
-        return b;
-    }
-    if b < c { b } else { c }
-}
-
-// The number of a record's refusal, 0 for none.
-fn record_refusal(row: &[u8], n: u32) -> u32
-    ensures { λ r. ⌜ r ≡ refusal (tests n (now (row .entry) ∷ [])) ⌝ }
-{
-    if row.len() != 8 {
-        return 11;
-    }
-    let head = word_at(row, 0) as u32 + 65536 * word_at(row, 2) as u32;
-    if head != HEAD {
-        return 11;
-    }
-    if !report::within(n, word_at(row, 6)) {
-        return 12;
-    }
-    0
-}
-
 // The number of the first record's refusal that has one, 0 for none.
 fn records_refusal(log: &[u8], n: u32) -> u32
     ensures { λ r. ⌜ r ≡ refusal (tests n (records (now (log .entry)))) ⌝ }
@@ -93,7 +32,7 @@ fn records_refusal(log: &[u8], n: u32) -> u32
     let mut at: usize = 0;
     while 8 <= log.len() - at {
         let end = at + 8;
-        let first = record_refusal(&log[at..end], n);
+        let first = log_record::record_refusal(&log[at..end], n);
         if first != 0 {
             return first;
         }
@@ -109,13 +48,9 @@ fn records_refusal(log: &[u8], n: u32) -> u32
 fn log_refusal(n: u32, log: &[u8], status: &[u8]) -> u32
     ensures { λ r. ⌜ r ≡ logRefusal n (now (log .entry)) (now (status .entry)) ⌝ }
 {
-    if !report::dimension(n) {
-        return 1;
-    }
-    if !report::sized(n, status.len()) {
-        return 2;
-    }
-    records_refusal(log, n)
+    let by_record = records_refusal(log, n);
+    let by_2 = refused_unless(report::sized(n, status.len()), 2, by_record);
+    refused_unless(report::dimension(n), 1, by_2)
 }
 
 // Lets a record of this age speak for its node.
@@ -124,8 +59,8 @@ fn put(row: &[u8], age: u16, status: &mut [u8])
     ensures { λ _. ⌜ now (status .exit) ≡ set (now (status .entry)) (nodeIn (now (row .entry))) (younger (getD (now (status .entry)) (nodeIn (now (row .entry))) 0) (cond (leb 32768 age) 0 (ageByte age))) ⌝ }
 {
     let node = word_at(row, 6) as usize;
-    let byte = byte_of(age);
-    status[node] = younger(status[node], byte);
+    let byte = log_record::byte_of(age);
+    status[node] = log_record::younger(status[node], byte);
 }
 
 // Lets every record of a log speak, and counts those from the future.
@@ -138,8 +73,8 @@ fn put_all(log: &[u8], sweep: u16, status: &mut [u8]) -> usize
     let mut count: usize = 0;
     while at < log.len() {
         let end = at + 8;
-        let age = age(&log[at..end], sweep);
-        count += skip(age);
+        let age = log_record::age(&log[at..end], sweep);
+        count += log_record::skip(age);
         put(&log[at..end], age, status);
         at = end;
     }
@@ -213,24 +148,4 @@ pub fn sweep_of(text: &[u8]) -> Sweep
 // For every input the contracts of `refresh` and `update` allow one answer; the status bytes are given by `statusAfter` and `updateAfter`.
 pub fn one_answer()
     ensures { λ r. ⌜ OneAnswer said ⌝ }
-{}
-
-// A board unheard is a board lost.
-pub fn a_board_unheard_is_a_board_lost()
-    ensures { λ r. ⌜ UnheardIsLost ⌝ }
-{}
-
-// For a file that isn't refused, the same records in another order give the same answer.
-pub fn any_order()
-    ensures { λ r. ⌜ AnyOrder ⌝ }
-{}
-
-// A log read in parts of whole records gives what the whole log gives.
-pub fn in_parts()
-    ensures { λ r. ⌜ InParts ⌝ }
-{}
-
-// Refresh is Update of bytes that are all 0.
-pub fn from_silence()
-    ensures { λ r. ⌜ FromSilence ⌝ }
 {}

@@ -3,7 +3,7 @@ use mathlib.Core.Path.{_≡_, refl}
 use Prim.Native.Nat.{ℕ}
 use Rattle.cube.specs.Reply.{Reply, refused, accepted}
 use Rattle.cube.proofs.Reply.{one-answer}
-use Rattle.log.specs.Refresh.{said}
+use Rattle.log.specs.Answer.{said}
 use Rattle.log.specs.declared.Refreshed.{Refreshed}
 use Rattle.log.specs.declared.Refreshed.the-variants.{Done, Refused}
 use Rattle.log.proofs.one_answer.Statement.{statement}

@@ -7,10 +7,10 @@ use native.Mathlib.Omega.{arith}
 use denote.Ref.{now}
 use lib.Dec.{leb}
 use lib.ListN.{length, drop}
-use Rattle.log.specs.Log.{records, skipped}
-use Rattle.log.specs.Sound.{sound}
-use Rattle.log.proofs.Refusals.{sound-at}
-use Rattle.log.proofs.Updates.{Told, skip-le, skipped-next, skipped-end, tells-next, tells-end}
+use Rattle.log_rules.specs.Log.{records, skipped}
+use Rattle.log_rules.specs.Sound.{sound}
+use Rattle.log_rules.proofs.Refusals.{sound-at}
+use Rattle.log_rules.proofs.Updates.{Told, skip-le, skipped-next, skipped-end, tells-next, tells-end}
 use Rattle.log.proofs.put_all.Statement.{statement}
 use Rattle.log.proofs.put_all.Tie as tie
 

@@ -6,9 +6,9 @@ use native.Mathlib.Omega.{arith}
 use denote.Ref.{now}
 use lib.ListN.{length, drop}
 use Rattle.cube.specs.Reply.{refusal}
-use Rattle.log.specs.Log.{records}
-use Rattle.log.specs.Refresh.{tests}
-use Rattle.log.proofs.Refusals.{refuse-at, pass-at, refuse-cut, pass-end}
+use Rattle.log_rules.specs.Log.{records}
+use Rattle.log_rules.specs.Refresh.{tests}
+use Rattle.log_rules.proofs.Refusals.{refuse-at, pass-at, refuse-cut, pass-end}
 use Rattle.log.proofs.records_refusal.Statement.{statement}
 use Rattle.log.proofs.records_refusal.Tie as tie
 

@@ -4,10 +4,10 @@ use native.Mathlib.Omega.{arith}
 use Prim.Native.Nat.{ℕ}
 use denote.Ref.{now}
 use lib.ListN.{length, length-replicate}
-use Rattle.log.specs.Log.{records}
-use Rattle.log.specs.Sound.{sound}
-use Rattle.log.specs.Refresh.{updated}
-use Rattle.log.proofs.Updates.{answer-refused, kept-refused, sound-none, answer-done, refresh-done}
+use Rattle.log_rules.specs.Log.{records}
+use Rattle.log_rules.specs.Sound.{sound}
+use Rattle.log_rules.specs.Refresh.{updated}
+use Rattle.log_rules.proofs.Updates.{answer-refused, kept-refused, sound-none, answer-done, refresh-done}
 use borrow.Author.Needs.{needs}
 use Rattle.log.proofs.refresh.Statement.{statement}
 use Rattle.log.proofs.refresh.Tie as tie

@@ -1,6 +1,6 @@
 -- `log::update` meets its contract: a refusal changes nothing, and else the records speak over the bytes there are.
 use denote.Ref.{now}
-use Rattle.log.proofs.Updates.{answer-refused, kept-refused, sound-none, answer-done, update-done}
+use Rattle.log_rules.proofs.Updates.{answer-refused, kept-refused, sound-none, answer-done, update-done}
 use borrow.Author.Needs.{needs}
 use Rattle.log.proofs.update.Statement.{statement}
 use Rattle.log.proofs.update.Tie as tie

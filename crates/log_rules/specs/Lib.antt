@@ -1,0 +1,4 @@
+pub mod Log
+pub mod Refresh
+pub mod Claims
+pub mod Sound
