@@ -1,6 +1,6 @@
 -- The laws of replies and of lists of refusals. A list of refusals is a chain of `cond`.
 use mathlib.Core.Path.{_≡_, refl, ap, sym, _∙_}
-use mathlib.Core.Bool.{Bool, true, false, cond}
+use mathlib.Core.Bool.{Bool, true, false, not, cond}
 use mathlib.Core.Logic.{_⊎_, inl, inr}
 use mathlib.Core.List.{List}
 use Prim.Native.Nat.{ℕ, zero, suc, _≤_}
@@ -11,6 +11,11 @@ use Rattle.cube.specs.Reply.{Reply, refused, accepted, unless, kept, One
 pub passed : (t : Bool) (m later : ℕ) → cond t (suc m) later ≡ 0 → (t ≡ false) × (later ≡ 0)
 passed true m later e = absurd (omega arith)
 passed false m later e = (refl, e)
+
+-- the later tests count only where this one passes
+pub later : (t : Bool) (m x y : ℕ) → (t ≡ true → x ≡ y) → cond (not t) m x ≡ cond (not t) m y
+later true m x y f = f refl
+later false m x y f = refl
 
 -- a refusal is at most the greatest number of its list
 pub refusal-le : (t : Bool) (m later top : ℕ) → m ≤ top → later ≤ top → cond t m later ≤ top

@@ -1,8 +1,8 @@
 -- The laws of a record's fields.
-use mathlib.Core.Path.{_≡_, refl}
+use mathlib.Core.Path.{_≡_, refl, ap}
 use mathlib.Core.Bool.{true, false}
 use mathlib.Core.List.{List}
-use Prim.Native.Nat.{ℕ, _+_, _^_, _≤_, _<_}
+use Prim.Native.Nat.{ℕ, _+_, _*_, _%_, _^_, _≤_, _<_}
 use native.Mathlib.Omega.{arith}
 use lib.ListN.{length, getD, drop, length-drop, List·getD-eq-default}
 use lib.Seq.{length-take-le}
@@ -11,6 +11,10 @@ use Rattle.cube.specs.Table.{table}
 use Rattle.report.specs.Report.{narrow}
 use Rattle.report.proofs.Report.{narrow-of, wide-of}
 use Rattle.record.specs.Open.{word, nIn, statusIn, linkIn, linksIn}
+
+-- how many nodes there are, as the code has it for any n
+pub nodes-known : (n : ℕ) → n ≤ 10 → 2 ^ (n % 16) ≡ 2 ^ n
+nodes-known n h = ap (λ (m : ℕ). 2 ^ m) (let e : n % 16 ≡ n = omega arith in e)
 
 -- past the end a word reads as 0
 pub word-past : (bytes : List ℕ) (i : ℕ) → length bytes ≤ i → word bytes i ≡ 0
@@ -37,6 +41,11 @@ unfolding statusIn
 count-status bytes h = length-take-le (2 ^ nIn bytes) (drop 5 bytes) (rw length-drop (omega arith))
 
 module _ (bytes : List ℕ) where
+  -- the link word of node a, where the number of nodes is known
+  pub link-at : (nodes a : ℕ) → nodes ≡ 2 ^ nIn bytes → word bytes (5 + nodes + 2 * a) ≡ linkIn bytes a
+  unfolding linkIn
+  link-at nodes a e = ap (λ (m : ℕ). word bytes (5 + m + 2 * a)) e
+
   pub count-links : length (linksIn bytes) ≡ 2 ^ nIn bytes
   unfolding linksIn
   count-links = length-table (linkIn bytes) (2 ^ nIn bytes)

@@ -1,83 +1,56 @@
 -- The refusals of Open: the number that comes first, and what follows where there is none.
-use mathlib.Core.Path.{_≡_, refl}
-use mathlib.Core.Bool.{Bool, true, false, not, cond, _&&_, and-false}
+use mathlib.Core.Path.{_≡_, refl, sym, ap, _∙_}
+use mathlib.Core.Bool.{Bool, true, not, cond, _&&_, and-eq-true-iff}
 use mathlib.Core.List.{List, _++_}
 use mathlib.Core.Logic.{⊎-elim}
 use Prim.Native.Nat.{ℕ, zero, suc, _+_, _-_, _*_, _^_, _≤_, _<_}
 use native.Mathlib.Omega.{arith}
-use borrow.Author.Tests.{lt-ltb, le-ltb, le-leb, lt-leb, eq-eqb, ne-eqb}
+use borrow.Author.Tests.{lt-ltb, le-ltb, le-leb, lt-leb, eq-eqb, ne-eqb, eqb-true, leb-true, ltb-false, not-false}
 use lib.Dec.{leb, ltb, eqb}
 use lib.ListN.{length, drop}
 use Rattle.cube.specs.Reply.{refused, accepted, refusal, unless, kept}
-use Rattle.cube.proofs.Reply.{refusal-le}
+use Rattle.cube.proofs.Reply.{passed, later, refusal-le}
 use Rattle.cube.proofs.Order.{lt-or-ge, eq-or-ne}
 use Rattle.report.specs.Report.{dimension, narrow}
+use Rattle.report.proofs.Report.{dimension-range}
 use Rattle.record.specs.Open.{lengthIn, kindIn, nIn, statusIn, linksIn, openRefusal, opened, statusAfter, linksAfter}
 
 -- both lent slices have 2^n places
 abbrev room : List ℕ → List ℕ → List ℕ → Bool
 room bytes status links = leb (2 ^ nIn bytes) (length status) && leb (2 ^ nIn bytes) (length links)
 
--- Each test of the list, with what the tests before it found.
-module _ (bytes status links : List ℕ) where
-  pub refuse-short : length bytes < 5 → openRefusal bytes status links ≡ 10
-  unfolding openRefusal refusal
-  refuse-short h = rw (lt-ltb (length bytes) 5 h)
+-- a length as the code compares it
+same : (l total : ℕ) → 5 ≤ total → eqb (l + 2) total ≡ eqb l (total - 2)
+same l total h =
+    ⊎-elim (λ (e : l ≡ total - 2). eq-eqb (l + 2) total (omega arith) ∙ sym (eq-eqb l (total - 2) e))
+    (λ (ne : l ≡ total - 2 → ⊥). ne-eqb (l + 2) total (λ e. ne (omega arith)) ∙ sym (ne-eqb l (total - 2) ne)) (eq-or-ne l (total - 2))
 
-  module _ (five : 5 ≤ length bytes) where
-    pub refuse-length : (lengthIn bytes ≡ length bytes - 2 → ⊥) → openRefusal bytes status links ≡ 10
-    unfolding openRefusal refusal
-    refuse-length h = rw (le-ltb (length bytes) 5 five, ne-eqb (lengthIn bytes) (length bytes - 2) h)
-
-    module _ (total : lengthIn bytes ≡ length bytes - 2) where
-      pub refuse-kind : (kindIn bytes ≡ 1 → ⊥) → openRefusal bytes status links ≡ 10
-      unfolding openRefusal refusal
-      refuse-kind h = rw (le-ltb (length bytes) 5 five, eq-eqb (lengthIn bytes) (length bytes - 2) total, ne-eqb (kindIn bytes) 1 h)
-
-      module _ (kind : kindIn bytes ≡ 1) where
-        -- the tests of length and kind passed, what those from n on say
-        from-n :
-            openRefusal bytes status links
-            ≡ cond (not (dimension (nIn bytes))) 1
-            (cond (not (eqb (lengthIn bytes) (3 + 3 * 2 ^ nIn bytes))) 10
-            (cond (not (room bytes status links)) 2
-            (cond (not (narrow (nIn bytes) (linksIn bytes))) 3 0)))
-        unfolding openRefusal refusal
-        from-n = rw (le-ltb (length bytes) 5 five, eq-eqb (lengthIn bytes) (length bytes - 2) total, eq-eqb (kindIn bytes) 1 kind)
-
-        pub refuse-low : nIn bytes < 1 → openRefusal bytes status links ≡ 1
-        unfolding dimension
-        refuse-low h = rw (from-n, lt-leb 1 (nIn bytes) h)
-
-        pub refuse-high : 10 < nIn bytes → openRefusal bytes status links ≡ 1
-        unfolding dimension
-        refuse-high h = rw (from-n, lt-leb (nIn bytes) 10 h, and-false)
-
-        module _ (low : 1 ≤ nIn bytes) (high : nIn bytes ≤ 10) where
-          pub refuse-size : (lengthIn bytes ≡ 3 + 3 * 2 ^ nIn bytes → ⊥) → openRefusal bytes status links ≡ 10
-          unfolding dimension
-          refuse-size h = rw (from-n, le-leb 1 (nIn bytes) low, le-leb (nIn bytes) 10 high, ne-eqb (lengthIn bytes) (3 + 3 * 2 ^ nIn bytes) h)
-
-          module _ (size : lengthIn bytes ≡ 3 + 3 * 2 ^ nIn bytes) where
-            from-room : openRefusal bytes status links ≡ cond (not (room bytes status links)) 2 (cond (not (narrow (nIn bytes) (linksIn bytes))) 3 0)
-            unfolding dimension
-            from-room = rw (from-n, le-leb 1 (nIn bytes) low, le-leb (nIn bytes) 10 high, eq-eqb (lengthIn bytes) (3 + 3 * 2 ^ nIn bytes) size)
-
-            pub refuse-status : length status < 2 ^ nIn bytes → openRefusal bytes status links ≡ 2
-            refuse-status h = rw (from-room, lt-leb (2 ^ nIn bytes) (length status) h)
-
-            pub refuse-links : length links < 2 ^ nIn bytes → openRefusal bytes status links ≡ 2
-            refuse-links h = rw (from-room, lt-leb (2 ^ nIn bytes) (length links) h, and-false)
-
-            module _ (forStatus : 2 ^ nIn bytes ≤ length status) (forLinks : 2 ^ nIn bytes ≤ length links) where
-              from-narrow : openRefusal bytes status links ≡ cond (not (narrow (nIn bytes) (linksIn bytes))) 3 0
-              from-narrow = rw (from-room, le-leb (2 ^ nIn bytes) (length status) forStatus, le-leb (2 ^ nIn bytes) (length links) forLinks)
-
-              pub refuse-wide : narrow (nIn bytes) (linksIn bytes) ≡ false → openRefusal bytes status links ≡ 3
-              refuse-wide h = rw (from-narrow, h)
-
-              pub refuse-none : narrow (nIn bytes) (linksIn bytes) ≡ true → openRefusal bytes status links ≡ 0
-              refuse-none h = rw (from-narrow, h)
+-- The chain as the code has it: the number of nodes and the link words are looked at only where the tests before them pass.
+pub chain : (bytes status links : List ℕ) (nodes : ℕ) (sound : Bool)
+    → (nIn bytes ≤ 10 → nodes ≡ 2 ^ nIn bytes)
+    → (nodes ≡ 2 ^ nIn bytes → length bytes ≡ 5 + 3 * nodes → sound ≡ narrow (nIn bytes) (linksIn bytes))
+    → cond (not (leb 5 (length bytes))) 10
+    (cond (not (eqb (lengthIn bytes + 2) (length bytes))) 10
+    (cond (not (eqb (kindIn bytes) 1)) 10
+    (cond (not (dimension (nIn bytes))) 1
+    (cond (not (eqb (lengthIn bytes) (3 + 3 * nodes))) 10
+    (cond (not (leb nodes (length status) && leb nodes (length links))) 2
+    (cond (not sound) 3 0))))))
+    ≡ openRefusal bytes status links
+unfolding openRefusal refusal
+chain bytes status links nodes sound count look =
+    ⊎-elim (λ (h : length bytes < 5). rw (lt-leb 5 (length bytes) h, lt-ltb (length bytes) 5 h))
+    (λ (h : 5 ≤ length bytes).
+    rw (le-leb 5 (length bytes) h, le-ltb (length bytes) 5 h, same (lengthIn bytes) (length bytes) h)
+    (later (eqb (lengthIn bytes) (length bytes - 2)) 10 _ _ (λ total.
+    later (eqb (kindIn bytes) 1) 10 _ _ (λ kind.
+    later (dimension (nIn bytes)) 1 _ _ (λ dim.
+    let e = count (dimension-range (nIn bytes) dim .1) in
+    rw e
+    (later (eqb (lengthIn bytes) (3 + 3 * 2 ^ nIn bytes)) 10 _ _ (λ size.
+    ap (λ (b : Bool). cond (not (room bytes status links)) 2 (cond (not b) 3 0))
+    (look e (omega (arith, e, h, eqb-true (lengthIn bytes) (length bytes - 2) total, eqb-true (lengthIn bytes) (3 + 3 * 2 ^ nIn bytes) size))))))))))
+    (lt-or-ge (length bytes) 5)
 
 -- no number is above 10
 pub open-refusal-le : (bytes status links : List ℕ) → openRefusal bytes status links ≤ 10
@@ -100,55 +73,30 @@ pub record Readable (bytes status links : List ℕ) : Type 0 where
   pub linksRoom : 2 ^ nIn bytes ≤ length links
   pub narrowLinks : narrow (nIn bytes) (linksIn bytes) ≡ true
 
--- each test would have given its number
-module _ (bytes status links : List ℕ) (none : openRefusal bytes status links ≡ 0) where
-  five : 5 ≤ length bytes
-  five = ⊎-elim (λ h. absurd (omega (arith, refuse-short bytes status links h))) (λ h. h) (lt-or-ge (length bytes) 5)
-
-  total : lengthIn bytes ≡ length bytes - 2
-  total = ⊎-elim (λ h. h) (λ h. absurd (omega (arith, refuse-length bytes status links five h))) (eq-or-ne (lengthIn bytes) (length bytes - 2))
-
-  kind : kindIn bytes ≡ 1
-  kind = ⊎-elim (λ h. h) (λ h. absurd (omega (arith, refuse-kind bytes status links five total h))) (eq-or-ne (kindIn bytes) 1)
-
-  low : 1 ≤ nIn bytes
-  low = ⊎-elim (λ h. absurd (omega (arith, refuse-low bytes status links five total kind h))) (λ h. h) (lt-or-ge (nIn bytes) 1)
-
-  high : nIn bytes ≤ 10
-  high = ⊎-elim (λ h. absurd (omega (arith, refuse-high bytes status links five total kind h))) (λ h. h) (lt-or-ge 10 (nIn bytes))
-
-  size : lengthIn bytes ≡ 3 + 3 * 2 ^ nIn bytes
-  size =
-      ⊎-elim (λ h. h) (λ h. absurd (omega (arith, refuse-size bytes status links five total kind low high h)))
-      (eq-or-ne (lengthIn bytes) (3 + 3 * 2 ^ nIn bytes))
-
-  status-room : 2 ^ nIn bytes ≤ length status
-  status-room =
-      ⊎-elim (λ h. absurd (omega (arith, refuse-status bytes status links five total kind low high size h))) (λ h. h)
-      (lt-or-ge (length status) (2 ^ nIn bytes))
-
-  links-room : 2 ^ nIn bytes ≤ length links
-  links-room =
-      ⊎-elim (λ h. absurd (omega (arith, refuse-links bytes status links five total kind low high size h))) (λ h. h)
-      (lt-or-ge (length links) (2 ^ nIn bytes))
-
-  narrow-links : narrow (nIn bytes) (linksIn bytes) ≡ true
-  narrow-links = go (narrow (nIn bytes) (linksIn bytes)) refl
-    where
-      go : (b : Bool) → narrow (nIn bytes) (linksIn bytes) ≡ b → b ≡ true
-      go true e = refl
-      go false e = absurd (omega (arith, refuse-wide bytes status links five total kind low high size status-room links-room e))
-
-  pub readable : Readable bytes status links
-  readable =
-      record {
-        atLeastOne = low;
-        dimensions = high;
-        size = omega (arith, five, total, size);
-        statusRoom = status-room;
-        linksRoom = links-room;
-        narrowLinks = narrow-links;
-      }
+-- every test passes
+pub readable : (bytes status links : List ℕ) → openRefusal bytes status links ≡ 0 → Readable bytes status links
+unfolding openRefusal
+readable bytes status links none =
+    let short = passed _ _ _ none in
+    let total = passed _ _ _ (short .1) in
+    let kind = passed (not (eqb (kindIn bytes) 1)) 9 _ (total .1) in
+    let dim = passed (not (dimension (nIn bytes))) 0 _ (kind .1) in
+    let size = passed (not (eqb (lengthIn bytes) (3 + 3 * 2 ^ nIn bytes))) 9 _ (dim .1) in
+    let rooms = passed (not (room bytes status links)) 1 _ (size .1) in
+    let wide = passed (not (narrow (nIn bytes) (linksIn bytes))) 2 0 (rooms .1) in
+    let range = dimension-range (nIn bytes) (not-false _ (dim .0)) in
+    let both = and-eq-true-iff _ _ .0 (not-false _ (rooms .0)) in
+    record {
+      atLeastOne = range .0;
+      dimensions = range .1;
+      size = 
+          omega (
+          arith, ltb-false (length bytes) 5 (short .0), eqb-true (lengthIn bytes) (length bytes - 2) (not-false _ (total .0)),
+          eqb-true (lengthIn bytes) (3 + 3 * 2 ^ nIn bytes) (not-false _ (size .0)));
+      statusRoom = leb-true _ _ (both .0);
+      linksRoom = leb-true _ _ (both .1);
+      narrowLinks = not-false _ (wide .0);
+    }
 
 -- what Open answers and leaves behind
 module _ (bytes status links : List ℕ) where

@@ -1,11 +1,12 @@
 // One report record: bytes on the wire.
+use cube::refused_unless;
 ghost use mathlib.Core.Path.{_≡_};
 ghost use mathlib.Core.List.{_++_};
-ghost use Prim.Native.Nat.{_+_, _*_, _^_, _<_, _≤_};
-ghost use lib.ListN.{length, drop};
+ghost use Prim.Native.Nat.{_+_, _*_, _%_, _^_, _<_, _≤_};
+ghost use lib.ListN.{length, getD, drop};
 ghost use Rattle.cube.specs.Reply.{OneAnswer};
 ghost use Rattle.report.specs.Report.{narrow};
-ghost use Rattle.record.specs.Open.{word, nIn, statusIn, linkIn, linksIn, openRefusal, opened, statusAfter, linksAfter, said};
+ghost use Rattle.record.specs.Open.{word, nIn, statusIn, linksIn, openRefusal, opened, statusAfter, linksAfter, said};
 ghost use Rattle.record.specs.Restate.{restated, ReadsBack};
 
 // What Open answers.
@@ -37,31 +38,41 @@ pub fn word_at(bytes: &[u8], i: usize) -> u16
     }
 }
 
-// How many nodes a cube of dimension n has.
-fn nodes_of(n: u32) -> usize
-    requires { ⌜ n ≤ 10 ⌝ }
-    ensures { λ r. ⌜ r ≡ 2 ^ n ⌝ }
-    ensures { λ r. ⌜ r ≤ 1024 ⌝ }
+// The byte at i; past the end 0.
+fn byte_at(bytes: &[u8], i: usize) -> u8
+    ensures { λ r. ⌜ r ≡ getD (now (bytes .entry)) i 0 ⌝ }
 {
-    1 << n
+    if bytes.len() <= i {
+        return 0;
+    }
+    bytes[i]
+}
+
+// How many nodes a cube of dimension n has; n from 16 on is taken as n % 16.
+fn nodes_of(n: u32) -> usize
+    ensures { λ r. ⌜ r ≡ 2 ^ (n % 16) ⌝ }
+    ensures { λ r. ⌜ r < 65536 ⌝ }
+{
+    1 << (n % 16)
 }
 
 // The link word of node a in a record of that many nodes.
 fn link(bytes: &[u8], nodes: usize, a: usize) -> u16
-    requires { ⌜ nodes ≡ 2 ^ nIn (now bytes) ⌝ }
     requires { ⌜ length (now bytes) ≡ 5 + 3 * nodes ⌝ }
     requires { ⌜ a < nodes ⌝ }
-    ensures { λ r. ⌜ r ≡ linkIn (now (bytes .entry)) a ⌝ }
+    ensures { λ r. ⌜ r ≡ word (now (bytes .entry)) (5 + nodes + 2 * a) ⌝ }
 {
     word(bytes, 5 + nodes + 2 * a)
 }
 
-// Whether every link word of a record of that many nodes is below their number.
+// Whether every link word of a record of that many nodes is below their number; a record of another length is not looked at.
 fn narrow_links(bytes: &[u8], nodes: usize) -> bool
-    requires { ⌜ nodes ≡ 2 ^ nIn (now bytes) ⌝ }
-    requires { ⌜ length (now bytes) ≡ 5 + 3 * nodes ⌝ }
-    ensures { λ r. ⌜ r ≡ narrow (nIn (now (bytes .entry))) (linksIn (now (bytes .entry))) ⌝ }
+    requires { ⌜ nodes < 65536 ⌝ }
+    ensures { λ r. ⌜ (nodes ≡ 2 ^ nIn (now (bytes .entry)) → length (now (bytes .entry)) ≡ 5 + 3 * nodes → r ≡ narrow (nIn (now (bytes .entry))) (linksIn (now (bytes .entry)))) ⌝ }
 {
+    if bytes.len() != 5 + 3 * nodes {
+        return true;
+    }
     let mut a: usize = 0;
     while a < nodes {
         let marks = link(bytes, nodes, a) as usize;
@@ -77,40 +88,18 @@ fn narrow_links(bytes: &[u8], nodes: usize) -> bool
 fn refusal(bytes: &[u8], status: &[u8], links: &[u16]) -> u32
     ensures { λ r. ⌜ r ≡ openRefusal (now (bytes .entry)) (now (status .entry)) (now (links .entry)) ⌝ }
 {
-    if bytes.len() < 5 {
-        return 10;
-    }
-    let length = word(bytes, 0) as usize;
-    if length != bytes.len() - 2 {
-        return 10;
-    }
-    let kind = word(bytes, 2);
-    if kind != 1 {
-        return 10;
-    }
-    let n = bytes[4] as u32;
-    if n < 1 {
-        return 1;
-    }
-    if 10 < n {
-        return 1;
-    }
+    let length = word_at(bytes, 0) as usize;
+    let kind = word_at(bytes, 2);
+    let n = byte_at(bytes, 4) as u32;
     let nodes = nodes_of(n);
-    let wanted = 3 + 3 * nodes;
-    if length != wanted {
-        return 10;
-    }
-    if status.len() < nodes {
-        return 2;
-    }
-    if links.len() < nodes {
-        return 2;
-    }
-    let narrow = narrow_links(bytes, nodes);
-    if narrow {
-        return 0;
-    }
-    3
+    let by_3 = refused_unless(narrow_links(bytes, nodes), 3, 0);
+    let roomy = (nodes <= status.len()) & (nodes <= links.len());
+    let by_2 = refused_unless(roomy, 2, by_3);
+    let by_size = refused_unless(length == 3 + 3 * nodes, 10, by_2);
+    let by_1 = refused_unless(report::dimension(n), 1, by_size);
+    let by_kind = refused_unless(kind == 1, 10, by_1);
+    let by_length = refused_unless(length + 2 == bytes.len(), 10, by_kind);
+    refused_unless(5 <= bytes.len(), 10, by_length)
 }
 
 // Copies the status bytes of a record of that many nodes into the first places.

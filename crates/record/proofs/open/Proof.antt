@@ -1,9 +1,11 @@
 -- `record::open` meets its contract: a refusal is handed on, and where there is none the record is readable.
 use borrow.Author.Needs.{needs}
 use mathlib.Core.Path.{_≡_, _∙_}
+use Prim.Native.Nat.{_%_, _^_}
 use native.Mathlib.Omega.{arith}
 use denote.Ref.{now}
-use Rattle.record.specs.Open.{openRefusal}
+use Rattle.record.specs.Open.{nIn, openRefusal}
+use Rattle.record.proofs.Fields.{nodes-known}
 use Rattle.record.proofs.Refusals.{readable, after-refusal, after-reading}
 use Rattle.record.proofs.open.Statement.{statement}
 use Rattle.record.proofs.open.Tie as tie
@@ -33,14 +35,18 @@ shared-slice-read-n c = omega (arith, readable _ _ _ (none (c .before)))
 cast-n : tie.Need-cast-n
 cast-n c = omega (arith, readable _ _ _ (none (c .before)))
 
+-- how many nodes the record has
+nodes : (c : tie.Else1) → 2 ^ (nIn (now (start c .args .bytes)) % 16) ≡ 2 ^ nIn (now (start c .args .bytes))
+nodes c = nodes-known _ (readable _ _ _ (none c) .dimensions)
+
 nodes-of-requires : tie.Need-nodes-of-requires
-nodes-of-requires c κs = readable _ _ _ (none (c .before)) .dimensions
+nodes-of-requires c κs = search needs
 
 write-status-requires : tie.Need-write-status-requires
-write-status-requires c κs = omega (arith, readable _ _ _ (none (c .before .before .before)))
+write-status-requires c κs = omega (arith, readable _ _ _ (none (c .before .before .before)), nodes (c .before .before .before))
 
 write-links-requires : tie.Need-write-links-requires
-write-links-requires c κs = omega (arith, readable _ _ _ (none (c .before .before .before .before .before .before .before)), c .before .before .before .before .before .nodes-of .ensures)
+write-links-requires c κs = omega (arith, readable _ _ _ (none (c .before .before .before .before .before .before .before)), nodes (c .before .before .before .before .before .before .before), c .before .before .before .before .before .nodes-of .ensures)
 
 same-length-3 : tie.Need-same-length-3
 same-length-3 c = search needs

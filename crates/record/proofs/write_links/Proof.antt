@@ -1,11 +1,12 @@
 -- `record::write_links` meets its contract. The invariant: the first a places are written.
 use borrow.Author.Needs.{needs}
-use mathlib.Core.Path.{_≡_}
+use mathlib.Core.Path.{_≡_, _∙_}
 use Prim.Native.Nat.{_-_, _^_, _≤_}
 use denote.Ref.{now}
 use native.Mathlib.Omega.{arith}
 use Rattle.cube.proofs.Table.{written, written-none, written-next, length-written}
 use Rattle.record.specs.Open.{nIn, linkIn, linksIn}
+use Rattle.record.proofs.Fields.{link-at}
 use Rattle.record.proofs.write_links.Statement.{statement}
 use Rattle.record.proofs.write_links.Tie as tie
 
@@ -34,7 +35,9 @@ loop-less : tie.Need-loop-less Inv-loop μ-loop
 loop-less c = omega arith
 
 loop-again : tie.Need-loop-again Inv-loop μ-loop
-loop-again c = (omega arith, written-next _ _ _ _ _ (omega arith) (c .before .before .loop .inv .1) (c .link .ensures))
+loop-again c =
+    let start = c .before .before .before .before .before in
+    (omega arith, written-next _ _ _ _ _ (omega arith) (c .before .before .loop .inv .1) (c .link .ensures ∙ link-at (now (start .args .bytes)) _ _ (start .pre .0)))
 
 same-length : tie.Need-same-length Inv-loop μ-loop
 same-length c = length-written _ _ _ _ (omega arith) (c .before .loop .inv .1)
