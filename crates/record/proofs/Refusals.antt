@@ -89,10 +89,13 @@ readable bytes status links none =
     record {
       atLeastOne = range .0;
       dimensions = range .1;
-      size = 
+      size =
           omega (
-          arith, ltb-false (length bytes) 5 (short .0), eqb-true (lengthIn bytes) (length bytes - 2) (not-false _ (total .0)),
-          eqb-true (lengthIn bytes) (3 + 3 * 2 ^ nIn bytes) (not-false _ (size .0)));
+            arith,
+            ltb-false (length bytes) 5 (short .0),
+            eqb-true (lengthIn bytes) (length bytes - 2) (not-false _ (total .0)),
+            eqb-true (lengthIn bytes) (3 + 3 * 2 ^ nIn bytes) (not-false _ (size .0)),
+          );
       statusRoom = leb-true _ _ (both .0);
       linksRoom = leb-true _ _ (both .1);
       narrowLinks = not-false _ (wide .0);
