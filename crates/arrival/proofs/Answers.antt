@@ -82,33 +82,33 @@ module _ {C : Cube} {d a nav : ℕ} (m : At C d a nav) where
   ends w = record { near = weight-zero (C .dim) nav (m .near) w; none = refl; says = refl }
 
   -- a mask that is not 0 leads, where each dimension of it is a good hop
-  leads : (bits : ℕ → Bool) (dims left p : ℕ) → 0 < weight nav → offer C bits dims a ≡ suc p
-      → ((i : ℕ) → bit (offer C bits dims a) i ≡ true → Hopped C d a nav left i) → Leads C d a nav left (accepted (onward (suc p)))
+  leads : (bits : ℕ → Bool) (dims left p : ℕ) → 0 < weight nav → offer (C .dim) (C .cut) bits dims a ≡ suc p
+      → ((i : ℕ) → bit (offer (C .dim) (C .cut) bits dims a) i ≡ true → Hopped C d a nav left i) → Leads C d a nav left (accepted (onward (suc p)))
   unfolding ones
   leads bits dims left p w e each =
       record {
         far = λ z. omega (arith, ap weight z);
-        mask = offer C bits dims a;
+        mask = offer (C .dim) (C .cut) bits dims a;
         says = ap (λ (x : ℕ). accepted (onward x)) (sym e);
-        small = offer-lt C bits dims a;
-        some = offer-find C bits dims a (omega arith);
+        small = offer-lt (C .dim) (C .cut) bits dims a;
+        some = offer-find (C .dim) (C .cut) bits dims a (omega arith);
         each = each;
       }
 
   -- so the mask P leads
-  preferred-leads : (h p : ℕ) → weight nav ≡ suc h → offer C (own (vectors C) h) nav a ≡ suc p → Leads C d a nav (suc h) (accepted (onward (suc p)))
+  preferred-leads : (h p : ℕ) → weight nav ≡ suc h → offer (C .dim) (C .cut) (own (vectors C) h) nav a ≡ suc p → Leads C d a nav (suc h) (accepted (onward (suc p)))
   preferred-leads h p w e = leads (own (vectors C) h) nav (suc h) p (omega arith) e (preferred-hop m w)
 
   -- the rule at the source
-  pub source-fair : Fair C d a nav (atSource C (own (vectors C)) a nav (weight nav))
+  pub source-fair : Fair C d a nav (atSource (C .dim) (C .cut) (own (vectors C)) a nav (weight nav))
   unfolding atSource told beyond
   source-fair = go (weight nav) refl
     where
       held : (h : ℕ) → weight nav ≡ suc h → safe C (suc h) a ≡ own (vectors C) (suc h) a
       held h w = sym (own-safe C (suc h) a (omega (arith, weight-le (C .dim) nav (m .near))) (m .node))
 
-      pick : (h : ℕ) → weight nav ≡ suc h → (b : Bool) (p q : ℕ) → own (vectors C) (suc h) a ≡ b → offer C (own (vectors C) h) nav a ≡ p
-          → offer C (own (vectors C) (suc (suc h))) (spare (C .dim) nav) a ≡ q → Fair C d a nav (choose b p q (suc h))
+      pick : (h : ℕ) → weight nav ≡ suc h → (b : Bool) (p q : ℕ) → own (vectors C) (suc h) a ≡ b → offer (C .dim) (C .cut) (own (vectors C) h) nav a ≡ p
+          → offer (C .dim) (C .cut) (own (vectors C) (suc (suc h))) (spare (C .dim) nav) a ≡ q → Fair C d a nav (choose b p q (suc h))
       pick h w true zero q eb ep eq = absurd (omega (arith, offer-pos C h a nav (m .size) (m .node) (m .near) w (held h w ∙ eb)))
       pick h w true (suc p) q eb ep eq = (omega arith, inr (preferred-leads h p w ep))
       pick h w false (suc p) q eb ep eq = (omega arith, inr (preferred-leads h p w ep))
@@ -116,22 +116,22 @@ module _ {C : Cube} {d a nav : ℕ} (m : At C d a nav) where
           (omega arith, inr (leads (own (vectors C) (suc (suc h))) (spare (C .dim) nav) (suc h + 2) q (omega arith) eq (spare-hop m w (held h w ∙ eb))))
       pick h w false zero zero eb ep eq = refl
 
-      go : (h : ℕ) → weight nav ≡ h → Fair C d a nav (atSource C (own (vectors C)) a nav h)
+      go : (h : ℕ) → weight nav ≡ h → Fair C d a nav (atSource (C .dim) (C .cut) (own (vectors C)) a nav h)
       go zero w = (omega arith, inl (ends w))
       go (suc h) w = pick h w _ _ _ refl refl refl
 
 -- the rule at a board under way
-pub node-guides : {C : Cube} {d a nav : ℕ} → UnderWay C d a nav → Guides C d a nav (weight nav) (atNode C (own (vectors C)) a nav (weight nav))
+pub node-guides : {C : Cube} {d a nav : ℕ} → UnderWay C d a nav → Guides C d a nav (weight nav) (atNode (C .dim) (C .cut) (own (vectors C)) a nav (weight nav))
 unfolding atNode
 node-guides {C} {d} {a} {nav} u = go (weight nav) refl (u .bears)
   where
     m : At C d a nav
     m = u .at
 
-    step : (h p : ℕ) → weight nav ≡ suc h → offer C (own (vectors C) h) nav a ≡ p → 0 < p → Guides C d a nav (suc h) (proceed p)
+    step : (h p : ℕ) → weight nav ≡ suc h → offer (C .dim) (C .cut) (own (vectors C) h) nav a ≡ p → 0 < p → Guides C d a nav (suc h) (proceed p)
     step h zero w e l = absurd (omega arith)
     step h (suc p) w e l = inr (preferred-leads m h p w e)
 
-    go : (h : ℕ) → weight nav ≡ h → safe C h a ≡ true → Guides C d a nav h (atNode C (own (vectors C)) a nav h)
+    go : (h : ℕ) → weight nav ≡ h → safe C h a ≡ true → Guides C d a nav h (atNode (C .dim) (C .cut) (own (vectors C)) a nav h)
     go zero w s = inl (ends m w)
     go (suc h) w s = step h _ w refl (offer-pos C h a nav (m .size) (m .node) (m .near) w s)

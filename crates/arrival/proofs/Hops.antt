@@ -85,17 +85,17 @@ module _ {C : Cube} {d a nav k : ℕ} (m : At C d a nav) (w : weight nav ≡ suc
   same-weight r u = ap weight (address-of (u .at) ∙ sym (address-of m)) ∙ w
 
   -- a hop along a preferred dimension offered
-  pub preferred-hop : (i : ℕ) → bit (offer C (own (vectors C) k) nav a) i ≡ true → Hopped C d a nav (suc k) i
+  pub preferred-hop : (i : ℕ) → bit (offer (C .dim) (C .cut) (own (vectors C) k) nav a) i ≡ true → Hopped C d a nav (suc k) i
   preferred-hop =
-      offer-each C (own (vectors C) k) nav a (Hopped C d a nav (suc k)) (λ j l e s h.
+      offer-each (C .dim) (C .cut) (own (vectors C) k) nav a (Hopped C d a nav (suc k)) (λ j l e s h.
       let f : weight (flip nav (suc j)) ≡ k = omega (arith, weight-off (C .dim) nav j (m .near) l e) in
       record { sound = s; way = under-way m j l (rw f h); fewer = omega arith; behind = λ r u. omega (arith, same-weight r u) })
 
   -- a hop along a spare dimension offered, from a board that lacks its own bit of its distance
-  pub spare-hop : safe C (suc k) a ≡ false → (i : ℕ) → bit (offer C (own (vectors C) (suc (suc k))) (spare (C .dim) nav) a) i ≡ true
+  pub spare-hop : safe C (suc k) a ≡ false → (i : ℕ) → bit (offer (C .dim) (C .cut) (own (vectors C) (suc (suc k))) (spare (C .dim) nav) a) i ≡ true
       → Hopped C d a nav (suc k + 2) i
   spare-hop lacks =
-      offer-each C (own (vectors C) (suc (suc k))) (spare (C .dim) nav) a (Hopped C d a nav (suc k + 2)) (λ j l e s h.
+      offer-each (C .dim) (C .cut) (own (vectors C) (suc (suc k))) (spare (C .dim) nav) a (Hopped C d a nav (suc k + 2)) (λ j l e s h.
       let off : bit nav (suc j) ≡ false = not-true _ (sym (spare-bit (C .dim) nav j l) ∙ e) in
       let f : weight (flip nav (suc j)) ≡ suc (suc k) = weight-on (C .dim) nav j (m .near) l off ∙ ap suc w in
       record {

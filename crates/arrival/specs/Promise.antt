@@ -1,4 +1,4 @@
--- Demand 3: what holds of every partial walk, for every n, report, pair and choice.
+-- Demand 3: what holds of every partial walk, for every report, pair and choice.
 use Prim.Native.Nat.{ℕ, _+_, _≤_}
 use mathlib.Core.Path.{_≡_}
 use mathlib.Core.Bool.{true}
@@ -8,8 +8,8 @@ use lib.Bits.{bitXor}
 use lib.ListN.{length}
 use Rattle.cube.specs.Bits.{bit, weight}
 use Rattle.cube.specs.Reply.{refused, accepted}
-use Rattle.report.specs.Report.{cube}
-use Rattle.safety.specs.Safety.{vectors}
+use Rattle.report.specs.Report.{Report, cube}
+use Rattle.safety.specs.Safety.{vectorsOf}
 use Rattle.rules.specs.Rules.{Choice, home, assured, lent, detour, hopsOf, arrived, onward}
 use Rattle.rules.specs.Decide.{decide}
 use Rattle.rules.specs.Hop.{hop}
@@ -22,14 +22,13 @@ beyond (assured mask h) = 0
 beyond (lent mask h) = 0
 beyond (detour mask h) = 2
 
-pub record Kept (n : ℕ) (status links : List ℕ) (s d : ℕ) (c : Choice) (legs : List Leg) (a nav : ℕ) : Type 0 where
+pub record Kept (R : Report) (s d : ℕ) (c : Choice) (legs : List Leg) (a nav : ℕ) : Type 0 where
   -- the relative address is right
   pub address : nav ≡ bitXor a d
   -- short of the destination the board's answer offers some dimension
-  pub offered : (a ≡ d → ⊥)
-      → (mask i : ℕ) × (answer n status links c legs a nav ≡ accepted (onward mask)) × (bit mask i ≡ true)
+  pub offered : (a ≡ d → ⊥) → (mask i : ℕ) × (answer R c legs a nav ≡ accepted (onward mask)) × (bit mask i ≡ true)
   -- at the destination it is arrived
-  pub there : a ≡ d → answer n status links c legs a nav ≡ accepted arrived
+  pub there : a ≡ d → answer R c legs a nav ≡ accepted arrived
   -- the hops promised are as many as the addresses differ in bits, plus two on a detour
   pub promised : hopsOf c ≡ weight (bitXor s d) + beyond c
   -- there are never more
@@ -39,38 +38,30 @@ pub record Kept (n : ℕ) (status links : List ℕ) (s d : ℕ) (c : Choice) (le
   -- no board twice
   pub once : distinct (a ∷ boards legs) ≡ true
   -- every board working
-  pub working : allWork status (a ∷ boards legs) ≡ true
+  pub working : allWork (cube R) (a ∷ boards legs) ≡ true
   -- no faulty link crossed
-  pub sound : allSound links legs ≡ true
+  pub sound : allSound (cube R) legs ≡ true
 
 -- demand 3
 unfoldable pub Promise : Type 0
-Promise =
-    (n : ℕ) (status links : List ℕ) (s d : ℕ) (c : Choice) (legs : List Leg) (a nav : ℕ)
-    → Walk n status links s d c legs a nav → Kept n status links s d c legs a nav
+Promise = (R : Report) (s d : ℕ) (c : Choice) (legs : List Leg) (a nav : ℕ) → Walk R s d c legs a nav → Kept R s d c legs a nav
 
 -- every partial walk can be completed
 unfoldable pub Completes : Type 0
 Completes =
-    (n : ℕ) (status links : List ℕ) (s d : ℕ) (c : Choice) (legs : List Leg) (a nav : ℕ)
-    → Walk n status links s d c legs a nav
-    → (more : List Leg) × Walk n status links s d c (more ++ legs) d 0
+    (R : Report) (s d : ℕ) (c : Choice) (legs : List Leg) (a nav : ℕ)
+    → Walk R s d c legs a nav → (more : List Leg) × Walk R s d c (more ++ legs) d 0
 
 -- over Fill's vectors Decide never answers 8
 unfoldable pub NoEight : Type 0
-NoEight =
-    (n : ℕ) (status links : List ℕ) (s d : ℕ)
-    → decide n status links (vectors (cube n status links)) s d ≡ refused 8 → ⊥
+NoEight = (R : Report) (s d : ℕ) → decide R (vectorsOf R) s d ≡ refused 8 → ⊥
 
 -- on a walk Hop refuses nothing, by 9 or by any other number
 unfoldable pub NoRefusal : Type 0
 NoRefusal =
-    (n : ℕ) (status links : List ℕ) (s d : ℕ) (c : Choice) (l : Leg) (legs : List Leg) (a nav m : ℕ)
-    → Walk n status links s d c (l ∷ legs) a nav
-    → hop n status links (vectors (cube n status links)) a nav ≡ refused m → ⊥
+    (R : Report) (s d : ℕ) (c : Choice) (l : Leg) (legs : List Leg) (a nav m : ℕ)
+    → Walk R s d c (l ∷ legs) a nav → hop R (vectorsOf R) a nav ≡ refused m → ⊥
 
 -- no walk is longer than n + 1
 unfoldable pub NeverLong : Type 0
-NeverLong =
-    (n : ℕ) (status links : List ℕ) (s d : ℕ) (c : Choice) (legs : List Leg) (a nav : ℕ)
-    → Walk n status links s d c legs a nav → length legs ≤ n + 1
+NeverLong = (R : Report) (s d : ℕ) (c : Choice) (legs : List Leg) (a nav : ℕ) → Walk R s d c legs a nav → length legs ≤ R .dim + 1

@@ -7,8 +7,9 @@ use lib.Bits.{bitXor}
 use lib.Dec.{eqb}
 use Rattle.cube.specs.Bits.{bit, flip}
 use Rattle.cube.specs.Reply.{Reply, accepted}
-use Rattle.report.specs.Report.{works, cut, cube}
-use Rattle.safety.specs.Safety.{vectors}
+use Rattle.report.specs.Health.{Cube}
+use Rattle.report.specs.Report.{Report}
+use Rattle.safety.specs.Safety.{vectorsOf}
 use Rattle.rules.specs.Rules.{Choice, home, assured, lent, detour, Next, arrived, onward}
 use Rattle.rules.specs.Decide.{decide}
 use Rattle.rules.specs.Hop.{hop}
@@ -26,18 +27,18 @@ told (lent mask h) = onward mask
 told (detour mask h) = onward mask
 
 -- what a board answers a message that has made these legs, latest first: at the source what Decide accepted, later what Hop says
-unfoldable pub answer : ℕ → List ℕ → List ℕ → Choice → List Leg → ℕ → ℕ → Reply Next
+unfoldable pub answer : Report → Choice → List Leg → ℕ → ℕ → Reply Next
 unfolding told
-answer n status links c [] a nav = accepted (told c)
-answer n status links c (l ∷ legs) a nav = hop n status links (vectors (cube n status links)) a nav
+answer R c [] a nav = accepted (told c)
+answer R c (l ∷ legs) a nav = hop R (vectorsOf R) a nav
 
 -- A partial walk from s to d, where Decide accepted s by c: the legs made, latest first, the board where the message is, and its relative
 -- address. It begins at the source, and grows by one hop along any dimension that the board offers.
-pub data Walk (n : ℕ) (status links : List ℕ) (s d : ℕ) (c : Choice) : List Leg → ℕ → ℕ → Type 0 where
-  source : decide n status links (vectors (cube n status links)) s d ≡ accepted c → Walk n status links s d c [] s (bitXor s d)
-  go : {legs : List Leg} {a nav mask i : ℕ} → Walk n status links s d c legs a nav
-      → answer n status links c legs a nav ≡ accepted (onward mask) → bit mask i ≡ true
-      → Walk n status links s d c (record { board = a; along = i } ∷ legs) (flip a i) (flip nav i)
+pub data Walk (R : Report) (s d : ℕ) (c : Choice) : List Leg → ℕ → ℕ → Type 0 where
+  source : decide R (vectorsOf R) s d ≡ accepted c → Walk R s d c [] s (bitXor s d)
+  go : {legs : List Leg} {a nav mask i : ℕ} → Walk R s d c legs a nav
+      → answer R c legs a nav ≡ accepted (onward mask) → bit mask i ≡ true
+      → Walk R s d c (record { board = a; along = i } ∷ legs) (flip a i) (flip nav i)
 
 -- the boards that a message has left
 unfoldable pub boards : List Leg → List ℕ
@@ -56,11 +57,11 @@ distinct [] = true
 distinct (b ∷ bs) = fresh b bs && distinct bs
 
 -- every board is working
-unfoldable pub allWork : List ℕ → List ℕ → Bool
-allWork status [] = true
-allWork status (b ∷ bs) = works status b && allWork status bs
+unfoldable pub allWork : Cube → List ℕ → Bool
+allWork C [] = true
+allWork C (b ∷ bs) = C .works b && allWork C bs
 
 -- no leg crosses a link that counts as faulty
-unfoldable pub allSound : List ℕ → List Leg → Bool
-allSound links [] = true
-allSound links (l ∷ legs) = not (cut links (l .board) (l .along)) && allSound links legs
+unfoldable pub allSound : Cube → List Leg → Bool
+allSound C [] = true
+allSound C (l ∷ legs) = not (C .cut (l .board) (l .along)) && allSound C legs

@@ -6,7 +6,7 @@ use Prim.Native.Nat.{ℕ, zero, suc, _+_, _*_, _-_, _/_, _%_, _^_, _≤_, _<_}
 use native.Mathlib.Nat.{mod-eq-of-lt, mod-one, mod-lt, le-trans, le-of-eq, lt-of-le-of-lt, lt-of-lt-of-le, add-zero, eq-zero-or-pos, pow-succ'}
 use native.Mathlib.Numerals.{add-one, add-two, add-three, add-four, add-five, one-add}
 use native.Mathlib.Omega.{arith}
-use borrow.Author.Tests.{lt-ltb, eq-eqb, ne-eqb, eqb-false}
+use borrow.Author.Tests.{lt-ltb, eq-eqb, ne-eqb, eqb-true, eqb-false}
 use lib.Bits.{bitXor, bitAnd, and-le-l, xor-lt, xor-comm}
 use lib.Dec.{eqb, ltb}
 use lib.Count.{ones, ones-cat}
@@ -373,6 +373,14 @@ weight-zero n x hx e = bit-ext x 0 n hx (pow-pos n) (λ i l. count-none (bit x) 
 
 pub weight-pos : (n x : ℕ) → x < 2 ^ n → 0 < x → 0 < weight x
 weight-pos n x hx h = ⊎-elim (λ (z : weight x ≡ 0). absurd (omega (arith, weight-zero n x hx z))) (λ l. l) (eq-zero-or-pos (weight x))
+
+-- the weight by the test that a relative address is 0
+pub weight-none : (x : ℕ) → eqb x 0 ≡ true → weight x ≡ 0
+unfolding ones
+weight-none x e = ap weight (eqb-true x 0 e)
+
+pub weight-some : (n x : ℕ) → x < 2 ^ n → eqb x 0 ≡ false → 0 < weight x
+weight-some n x h e = weight-pos n x h (omega (arith, eqb-false x 0 e))
 
 -- ---- relative addresses
 

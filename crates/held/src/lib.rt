@@ -96,7 +96,7 @@ fn faults(n: u32, links: &[u16], a: usize) -> u16
 fn fits(n: u32, length: usize, a: Node) -> bool
     ensures { λ r. ⌜ r ≡ (leb n 10 && (eqb length (2 ^ n) && within n (a .0))) ⌝ }
 {
-    (n <= 10) & (report::sized(n, length) & report::within(n, a.0))
+    (n <= 10) & (report::sized(n, length) & report::has_node(n, a))
 }
 
 // The mask of the dimensions along which bit k is registered at a; 0 where that can't be read.

@@ -1,4 +1,5 @@
 // One record of the status log: its refusal, its age, and the status byte that it speaks for.
+use cube::Node;
 use record::word_at;
 ghost use mathlib.Core.Path.{_≡_};
 ghost use mathlib.Core.Bool.{cond};
@@ -63,7 +64,7 @@ pub fn record_refusal(row: &[u8], n: u32) -> u32
     if head != HEAD {
         return 11;
     }
-    if !report::within(n, word_at(row, 6)) {
+    if !report::has_node(n, Node(word_at(row, 6))) {
         return 12;
     }
     0

@@ -1,3 +1,4 @@
 pub mod Class
 pub mod Health
 pub mod Report
+pub mod Cabinets

@@ -1,4 +1,4 @@
--- What a report says: which boards work, which links count as faulty, and which reports are acceptable.
+-- A cabinet report, and what it says: which boards work, which links count as faulty, and which reports are acceptable.
 use mathlib.Core.Path.{_≡_}
 use Prim.Native.Nat.{ℕ, _^_}
 use mathlib.Core.Bool.{Bool, true, _&&_, _||_}
@@ -8,6 +8,16 @@ use lib.ListN.{length, getD}
 use Rattle.cube.specs.Bits.{bit, flip}
 use Rattle.report.specs.Class.{classOf, isWorking}
 use Rattle.report.specs.Health.{Cube}
+
+-- a report: its dimension, one status byte for each node, and one link word for each node
+pub record Report : Type 0 where
+  pub dim : ℕ
+  pub status : List ℕ
+  pub links : List ℕ
+
+-- the report of a dimension, status bytes and link words
+abbrev pub report : ℕ → List ℕ → List ℕ → Report
+report n status links = record { dim = n; status = status; links = links }
 
 -- the board of node a is working; a node past the end of the list was never heard
 unfoldable pub works : List ℕ → ℕ → Bool
@@ -29,9 +39,9 @@ abbrev pub SeenFromBothEnds : Type 0
 SeenFromBothEnds = (links : List ℕ) (a i : ℕ) → cut links (flip a i) i ≡ cut links a i
 
 -- the cube that a report describes
-unfoldable pub cube : ℕ → List ℕ → List ℕ → Cube
+unfoldable pub cube : Report → Cube
 unfolding works cut
-cube n status links = record { dim = n; works = works status; cut = cut links }
+cube R = record { dim = R .dim; works = works (R .status); cut = cut (R .links) }
 
 -- n is from 1 to 10
 unfoldable pub dimension : ℕ → Bool
@@ -40,6 +50,11 @@ dimension n = leb 1 n && leb n 10
 -- a list has one entry for each node
 unfoldable pub sized : ℕ → List ℕ → Bool
 sized n xs = eqb (length xs) (2 ^ n)
+
+-- the status bytes, the link words and the vectors lent with them have one entry for each node
+unfoldable pub allSized : Report → List ℕ → Bool
+unfolding sized
+allSized R vectors = sized (R .dim) (R .status) && (sized (R .dim) (R .links) && sized (R .dim) vectors)
 
 -- a number is that of a node, or a relative address
 unfoldable pub within : ℕ → ℕ → Bool

@@ -1,4 +1,5 @@
 // What a cabinet report means: the class of a status byte, which boards work, which links count as faulty.
+use cube::Nav;
 use cube::Node;
 ghost use mathlib.Core.Path.{_≡_};
 ghost use Prim.Native.Nat.{min, _^_};
@@ -93,15 +94,22 @@ pub fn all_sized(n: u32, a: usize, b: usize, c: usize) -> bool
     sized(n, a) & (sized(n, b) & sized(n, c))
 }
 
-// Whether two numbers are below 2^n.
-pub fn both_within(n: u32, a: u16, b: u16) -> bool
-    ensures { λ r. ⌜ r ≡ (within n a && within n b) ⌝ }
+// Whether a cube of dimension n has node a.
+pub fn has_node(n: u32, a: Node) -> bool
+    ensures { λ r. ⌜ r ≡ within n (a .0) ⌝ }
 {
-    within(n, a) & within(n, b)
+    within(n, a.0)
+}
+
+// Whether a cube of dimension n has relative address v.
+pub fn has_address(n: u32, v: Nav) -> bool
+    ensures { λ r. ⌜ r ≡ within n (v .0) ⌝ }
+{
+    within(n, v.0)
 }
 
 // Whether a number is below 2^n.
-pub fn within(n: u32, a: u16) -> bool
+fn within(n: u32, a: u16) -> bool
     ensures { λ r. ⌜ r ≡ within n a ⌝ }
 {
     (a as u32) < limit(n)

@@ -4,15 +4,14 @@ use cube::Node;
 use cube::refused_unless;
 ghost use mathlib.Core.Path.{_≡_};
 ghost use mathlib.Core.Bool.{true, false};
-ghost use mathlib.Core.List.{List};
 ghost use lib.ListN.{length};
 ghost use Prim.Native.Nat.{ℕ, _^_, _≤_, _<_};
 ghost use Rattle.cube.specs.Bits.{weight};
 ghost use Rattle.cube.specs.Reply.{numberOf, OneAnswer};
-ghost use Rattle.report.specs.Report.{cube};
+ghost use Rattle.report.specs.Report.{report, cut};
 ghost use Rattle.held.specs.Held.{own};
 ghost use Rattle.rules.specs.Rules.{maskOf, hopsOf, offer, spare, choose, atSource, proceed, atNode};
-ghost use Rattle.rules.specs.Refusals.{routeRefusal};
+ghost use Rattle.rules.specs.Refusals.{decideRefusal, hopRefusal};
 ghost use Rattle.rules.specs.Decide.{decide};
 ghost use Rattle.rules.specs.Hop.{hop};
 ghost use Rattle.routing.specs.Decide as deciding;
@@ -87,7 +86,7 @@ impl Step {
 // The mask of the dimensions among dims whose neighbour of a has bit k, as registered at a.
 fn mask(n: u32, links: &[u16], vectors: &[u16], dims: u16, a: Node, k: u32) -> u16
     requires { ⌜ (n ≤ 10) × (length (now links) ≡ 2 ^ n) × (length (now vectors) ≡ 2 ^ n) × (a .0 < 2 ^ n) ⌝ }
-    ensures { λ r. ⌜ ((status : List ℕ) → r ≡ offer (cube n status (now (links .entry))) (own (now (vectors .entry)) k) dims (a .0)) ⌝ }
+    ensures { λ r. ⌜ r ≡ offer n (cut (now (links .entry))) (own (now (vectors .entry)) k) dims (a .0) ⌝ }
 {
     held::heard(n, links, vectors, a, k) & dims
 }
@@ -128,12 +127,14 @@ fn detour(q: u16, h: u32) -> Decision
 // The rule at the source, H hops from the destination at nav.
 fn at_source(n: u32, links: &[u16], vectors: &[u16], s: Node, nav: Nav) -> Decision
     requires { ⌜ (n ≤ 10) × (length (now links) ≡ 2 ^ n) × (length (now vectors) ≡ 2 ^ n) × (s .0 < 2 ^ n) × (nav .0 < 2 ^ n) ⌝ }
-    ensures { λ r. ⌜ ((status : List ℕ) → deciding.said r ≡ atSource (cube n status (now (links .entry))) (own (now (vectors .entry))) (s .0) (nav .0) (weight (nav .0))) ⌝ }
+    ensures { λ r.
+        let rule = atSource n (cut (now (links .entry))) (own (now (vectors .entry))) in
+        ⌜ deciding.said r ≡ rule (s .0) (nav .0) (weight (nav .0)) ⌝ }
 {
-    let h = nav.weight();
-    if h == 0 {
+    if nav.arrived() {
         return Decision::Accepted(Kind::Home);
     }
+    let h = nav.weight();
     let p = mask(n, links, vectors, nav.0, s, h - 1);
     if held::own(vectors, s, h) == 1 {
         return assured(p, h);
@@ -145,21 +146,16 @@ fn at_source(n: u32, links: &[u16], vectors: &[u16], s: Node, nav: Nav) -> Decis
     detour(q, h)
 }
 
-// The number by which Decide and Hop refuse before their rules, 0 for none: at node a, for destination d; b is the destination or the relative address.
-fn route_refusal(
-    n: u32,
-    status: &[u8],
-    links: &[u16],
-    vectors: &[u16],
-    a: Node,
-    b: u16,
-    d: Node,
-) -> u32
-    ensures { λ r. ⌜ r ≡ routeRefusal n (now (status .entry)) (now (links .entry)) (now (vectors .entry)) (a .0) b (d .0) ⌝ }
+// The number by which Decide refuses before its rule, 0 for none.
+fn decide_refusal(n: u32, status: &[u8], links: &[u16], vectors: &[u16], s: Node, d: Node) -> u32
+    ensures { λ r.
+        let R = report n (now (status .entry)) (now (links .entry)) in
+        ⌜ r ≡ decideRefusal R (now (vectors .entry)) (s .0) (d .0) ⌝ }
 {
     let by_6 = refused_unless(report::works(status, d), 6, 0);
-    let by_5 = refused_unless(report::works(status, a), 5, by_6);
-    let by_4 = refused_unless(report::both_within(n, a.0, b), 4, by_5);
+    let by_5 = refused_unless(report::works(status, s), 5, by_6);
+    let nodes = report::has_node(n, s) & report::has_node(n, d);
+    let by_4 = refused_unless(nodes, 4, by_5);
     let sized = report::all_sized(n, status.len(), links.len(), vectors.len());
     let by_2 = refused_unless(sized, 2, by_4);
     refused_unless(report::dimension(n), 1, by_2)
@@ -167,9 +163,11 @@ fn route_refusal(
 
 // Decide: the decision at a source s for a destination d, over lent vectors.
 pub fn decide(n: u32, status: &[u8], links: &[u16], vectors: &[u16], s: Node, d: Node) -> Decision
-    ensures { λ r. ⌜ deciding.said r ≡ decide n (now (status .entry)) (now (links .entry)) (now (vectors .entry)) (s .0) (d .0) ⌝ }
+    ensures { λ r.
+        let R = report n (now (status .entry)) (now (links .entry)) in
+        ⌜ deciding.said r ≡ decide R (now (vectors .entry)) (s .0) (d .0) ⌝ }
 {
-    let number = route_refusal(n, status, links, vectors, s, d.0, d);
+    let number = decide_refusal(n, status, links, vectors, s, d);
     if number != 0 {
         return Decision::Refused(number);
     }
@@ -189,20 +187,39 @@ fn proceed(p: u16) -> Step
 // The rule at a later node a, with the destination at nav.
 fn at_node(n: u32, links: &[u16], vectors: &[u16], a: Node, nav: Nav) -> Step
     requires { ⌜ (n ≤ 10) × (length (now links) ≡ 2 ^ n) × (length (now vectors) ≡ 2 ^ n) × (a .0 < 2 ^ n) × (nav .0 < 2 ^ n) ⌝ }
-    ensures { λ r. ⌜ ((status : List ℕ) → hopping.said r ≡ atNode (cube n status (now (links .entry))) (own (now (vectors .entry))) (a .0) (nav .0) (weight (nav .0))) ⌝ }
+    ensures { λ r.
+        let rule = atNode n (cut (now (links .entry))) (own (now (vectors .entry))) in
+        ⌜ hopping.said r ≡ rule (a .0) (nav .0) (weight (nav .0)) ⌝ }
 {
-    let away = nav.weight();
-    if away == 0 {
+    if nav.arrived() {
         return Step::Arrived;
     }
+    let away = nav.weight();
     proceed(mask(n, links, vectors, nav.0, a, away - 1))
+}
+
+// The number by which Hop refuses before its rule, 0 for none.
+fn hop_refusal(n: u32, status: &[u8], links: &[u16], vectors: &[u16], a: Node, nav: Nav) -> u32
+    ensures { λ r.
+        let R = report n (now (status .entry)) (now (links .entry)) in
+        ⌜ r ≡ hopRefusal R (now (vectors .entry)) (a .0) (nav .0) ⌝ }
+{
+    let by_6 = refused_unless(report::works(status, a.at(nav)), 6, 0);
+    let by_5 = refused_unless(report::works(status, a), 5, by_6);
+    let inside = report::has_node(n, a) & report::has_address(n, nav);
+    let by_4 = refused_unless(inside, 4, by_5);
+    let sized = report::all_sized(n, status.len(), links.len(), vectors.len());
+    let by_2 = refused_unless(sized, 2, by_4);
+    refused_unless(report::dimension(n), 1, by_2)
 }
 
 // Hop: the hop at a later node a with a relative address, over lent vectors.
 pub fn hop(n: u32, status: &[u8], links: &[u16], vectors: &[u16], a: Node, nav: Nav) -> Step
-    ensures { λ r. ⌜ hopping.said r ≡ hop n (now (status .entry)) (now (links .entry)) (now (vectors .entry)) (a .0) (nav .0) ⌝ }
+    ensures { λ r.
+        let R = report n (now (status .entry)) (now (links .entry)) in
+        ⌜ hopping.said r ≡ hop R (now (vectors .entry)) (a .0) (nav .0) ⌝ }
 {
-    let number = route_refusal(n, status, links, vectors, a, nav.0, a.at(nav));
+    let number = hop_refusal(n, status, links, vectors, a, nav);
     if number != 0 {
         return Step::Refused(number);
     }

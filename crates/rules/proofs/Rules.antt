@@ -18,36 +18,37 @@ use Rattle.held.proofs.Held.{own-safe}
 use Rattle.rules.specs.Rules.{borne, offer, spare, Choice, hopsOf, home, assured, lent, detour, choose, atSource, onward, proceed, atNode}
 
 -- what holds of each dimension among dims whose link is sound and whose neighbour has its bit holds of each dimension offered
-pub offer-each : (C : Cube) (bits : ℕ → Bool) (dims a : ℕ) (P : ℕ → Type 0)
-    → ((j : ℕ) → j < C .dim → bit dims (suc j) ≡ true → C .cut a (suc j) ≡ false → bits (flip a (suc j)) ≡ true → P (suc j))
-    → (i : ℕ) → bit (offer C bits dims a) i ≡ true → P i
+pub offer-each : (n : ℕ) (cut : ℕ → ℕ → Bool) (bits : ℕ → Bool) (dims a : ℕ) (P : ℕ → Type 0)
+    → ((j : ℕ) → j < n → bit dims (suc j) ≡ true → cut a (suc j) ≡ false → bits (flip a (suc j)) ≡ true → P (suc j))
+    → (i : ℕ) → bit (offer n cut bits dims a) i ≡ true → P i
 unfolding offer borne registered
-offer-each C bits dims a P each =
-    pack-each (borne C bits dims a) (C .dim) P (λ j l e.
-    let among = and-eq-true-iff (bit dims (suc j)) (registered (C .cut) bits a (suc j)) .0 e in
-    let has = and-eq-true-iff (not (C .cut a (suc j))) (bits (flip a (suc j))) .0 (among .1) in
+offer-each n cut bits dims a P each =
+    pack-each (borne cut bits dims a) n P (λ j l e.
+    let among = and-eq-true-iff (bit dims (suc j)) (registered cut bits a (suc j)) .0 e in
+    let has = and-eq-true-iff (not (cut a (suc j))) (bits (flip a (suc j))) .0 (among .1) in
     each j l (among .0) (not-true _ (has .0)) (has .1))
 
 -- a mask has no dimension above n
-pub offer-lt : (C : Cube) (bits : ℕ → Bool) (dims a : ℕ) → offer C bits dims a < 2 ^ (C .dim)
+pub offer-lt : (n : ℕ) (cut : ℕ → ℕ → Bool) (bits : ℕ → Bool) (dims a : ℕ) → offer n cut bits dims a < 2 ^ n
 unfolding offer
-offer-lt C bits dims a = pack-lt (borne C bits dims a) (C .dim)
+offer-lt n cut bits dims a = pack-lt (borne cut bits dims a) n
 
 -- a mask that is not 0 offers some dimension
-pub offer-find : (C : Cube) (bits : ℕ → Bool) (dims a : ℕ) → 0 < offer C bits dims a → (i : ℕ) × (bit (offer C bits dims a) i ≡ true)
+pub offer-find : (n : ℕ) (cut : ℕ → ℕ → Bool) (bits : ℕ → Bool) (dims a : ℕ) → 0 < offer n cut bits dims a
+    → (i : ℕ) × (bit (offer n cut bits dims a) i ≡ true)
 unfolding offer
-offer-find C bits dims a h =
-    let (i, l, e) = pack-find (borne C bits dims a) (C .dim) h in
-    (suc i, bit-pack (borne C bits dims a) (C .dim) i l ∙ e)
+offer-find n cut bits dims a h =
+    let (i, l, e) = pack-find (borne cut bits dims a) n h in
+    (suc i, bit-pack (borne cut bits dims a) n i l ∙ e)
 
 -- over Fill's table a board with its own bit of its distance offers some preferred dimension
 pub offer-pos : (C : Cube) (k a nav : ℕ) → 0 < C .dim → a < 2 ^ (C .dim) → nav < 2 ^ (C .dim) → weight nav ≡ suc k → safe C (suc k) a ≡ true
-    → 0 < offer C (own (vectors C) k) nav a
+    → 0 < offer (C .dim) (C .cut) (own (vectors C) k) nav a
 unfolding offer borne registered
 offer-pos C k a nav h ha hn w e =
     let (i, l, u, v) = safe-preferred C k a nav h hn w e in
     let low : k ≤ C .dim = omega (arith, weight-le (C .dim) nav hn) in
-    pack-some (borne C (own (vectors C) k) nav a) (C .dim) i l
+    pack-some (borne (C .cut) (own (vectors C) k) nav a) (C .dim) i l
     (ap₂ _&&_ u (ap (λ (b : Bool). not (C .cut a (suc i)) && b) (own-safe C k (flip a (suc i)) low (flip-lt (C .dim) a (suc i) ha l)) ∙ v))
 
 -- a spare dimension is not a one bit of the relative address
@@ -81,42 +82,42 @@ choose-detour zero h nz = absurd (nz refl)
 choose-detour (suc q) h nz = refl
 
 -- at a distance that is not 0
-pub source-away : (C : Cube) (bits : ℕ → ℕ → Bool) (s nav h : ℕ) → (h ≡ 0 → ⊥)
-    → atSource C bits s nav h ≡ choose (bits h s) (offer C (bits (h - 1)) nav s) (offer C (bits (h + 1)) (spare (C .dim) nav) s) h
+pub source-away : (n : ℕ) (cut bits : ℕ → ℕ → Bool) (s nav h : ℕ) → (h ≡ 0 → ⊥)
+    → atSource n cut bits s nav h ≡ choose (bits h s) (offer n cut (bits (h - 1)) nav s) (offer n cut (bits (h + 1)) (spare n nav) s) h
 unfolding atSource
-source-away C bits s nav zero nz = absurd (nz refl)
-source-away C bits s nav (suc h) nz =
+source-away n cut bits s nav zero nz = absurd (nz refl)
+source-away n cut bits s nav (suc h) nz =
     let e : suc h - 1 ≡ h = omega arith in rw (e, add-one)
 
 -- a spare dimension offered leaves room for a hop more
-pub detour-room : (C : Cube) (bits : ℕ → Bool) (nav a : ℕ) → nav < 2 ^ (C .dim) → 0 < offer C bits (spare (C .dim) nav) a → weight nav < C .dim
-detour-room C bits nav a hn h =
-    let (i, e) = offer-find C bits (spare (C .dim) nav) a h in
-    offer-each C bits (spare (C .dim) nav) a (λ (x : ℕ). weight nav < C .dim)
+pub detour-room : (n : ℕ) (cut : ℕ → ℕ → Bool) (bits : ℕ → Bool) (nav a : ℕ) → nav < 2 ^ n → 0 < offer n cut bits (spare n nav) a → weight nav < n
+detour-room n cut bits nav a hn h =
+    let (i, e) = offer-find n cut bits (spare n nav) a h in
+    offer-each n cut bits (spare n nav) a (λ (x : ℕ). weight nav < n)
     (λ j l s k b.
-    let on = weight-on (C .dim) nav j hn l (not-true _ (sym (spare-bit (C .dim) nav j l) ∙ s)) in
-    omega (arith, on, weight-le (C .dim) (flip nav (suc j)) (flip-lt (C .dim) nav (suc j) hn l)))
+    let on = weight-on n nav j hn l (not-true _ (sym (spare-bit n nav j l) ∙ s)) in
+    omega (arith, on, weight-le n (flip nav (suc j)) (flip-lt n nav (suc j) hn l)))
     i e
 
 accepts : (x c : Choice) (m : ℕ) → accepted x ≡ accepted c → hopsOf x ≤ m → hopsOf c ≤ m
 accepts x c m e h = let z : x ≡ c = cc in subst (λ (y : Choice). hopsOf y ≤ m) z h
 
 -- no source is promised more than n + 1 hops
-pub source-hops : (C : Cube) (bits : ℕ → ℕ → Bool) (s nav h : ℕ) (c : Choice) → nav < 2 ^ (C .dim) → weight nav ≡ h
-    → atSource C bits s nav h ≡ accepted c → hopsOf c ≤ C .dim + 1
+pub source-hops : (n : ℕ) (cut bits : ℕ → ℕ → Bool) (s nav h : ℕ) (c : Choice) → nav < 2 ^ n → weight nav ≡ h
+    → atSource n cut bits s nav h ≡ accepted c → hopsOf c ≤ n + 1
 unfolding atSource choose
-source-hops C bits s nav zero c hn w e = accepts home c (C .dim + 1) e (omega arith)
-source-hops C bits s nav (suc h) c hn w e =
-    go (bits (suc h) s) (offer C (bits h) nav s) (offer C (bits (suc (suc h))) (spare (C .dim) nav) s) (detour-room C (bits (suc (suc h))) nav s hn) e
+source-hops n cut bits s nav zero c hn w e = accepts home c (n + 1) e (omega arith)
+source-hops n cut bits s nav (suc h) c hn w e =
+    go (bits (suc h) s) (offer n cut (bits h) nav s) (offer n cut (bits (suc (suc h))) (spare n nav) s) (detour-room n cut (bits (suc (suc h))) nav s hn) e
   where
-    low : suc h ≤ C .dim
-    low = omega (arith, weight-le (C .dim) nav hn)
+    low : suc h ≤ n
+    low = omega (arith, weight-le n nav hn)
 
-    go : (t : Bool) (p q : ℕ) → (0 < q → weight nav < C .dim) → choose t p q (suc h) ≡ accepted c → hopsOf c ≤ C .dim + 1
+    go : (t : Bool) (p q : ℕ) → (0 < q → weight nav < n) → choose t p q (suc h) ≡ accepted c → hopsOf c ≤ n + 1
     go true zero q room k = absurd (refused-accepted 8 c k)
-    go true (suc p) q room k = accepts (assured (suc p) (suc h)) c (C .dim + 1) k (omega (arith, low))
-    go false (suc p) q room k = accepts (lent (suc p) (suc h)) c (C .dim + 1) k (omega (arith, low))
-    go false zero (suc q) room k = accepts (detour (suc q) (suc h + 2)) c (C .dim + 1) k (omega (arith, room (omega arith)))
+    go true (suc p) q room k = accepts (assured (suc p) (suc h)) c (n + 1) k (omega (arith, low))
+    go false (suc p) q room k = accepts (lent (suc p) (suc h)) c (n + 1) k (omega (arith, low))
+    go false zero (suc q) room k = accepts (detour (suc q) (suc h + 2)) c (n + 1) k (omega (arith, room (omega arith)))
     go false zero zero room k = absurd (refused-accepted 7 c k)
 
 -- ---- the rule at a later node
@@ -126,9 +127,9 @@ unfolding proceed
 proceed-some zero nz = absurd (nz refl)
 proceed-some (suc p) nz = refl
 
-pub node-away : (C : Cube) (bits : ℕ → ℕ → Bool) (a nav h : ℕ) → (h ≡ 0 → ⊥)
-    → atNode C bits a nav h ≡ proceed (offer C (bits (h - 1)) nav a)
+pub node-away : (n : ℕ) (cut bits : ℕ → ℕ → Bool) (a nav h : ℕ) → (h ≡ 0 → ⊥)
+    → atNode n cut bits a nav h ≡ proceed (offer n cut (bits (h - 1)) nav a)
 unfolding atNode
-node-away C bits a nav zero nz = absurd (nz refl)
-node-away C bits a nav (suc h) nz =
+node-away n cut bits a nav zero nz = absurd (nz refl)
+node-away n cut bits a nav (suc h) nz =
     let e : suc h - 1 ≡ h = omega arith in rw e

@@ -1,18 +1,31 @@
--- The refusals that Decide and Hop give before their rules.
+-- The refusals that Decide and Hop give before their rules, lowest first.
 use Prim.Native.Nat.{ℕ}
 use mathlib.Core.Bool.{not, _&&_}
 use mathlib.Core.List.{List, [], _∷_}
+use lib.Bits.{bitXor}
 use Rattle.cube.specs.Reply.{refusal}
-use Rattle.report.specs.Report.{works, dimension, sized, within}
+use Rattle.report.specs.Report.{Report, cube, dimension, allSized, within}
 
--- At node a for destination d, lowest first; b is the destination at Decide and the relative address at Hop.
-unfoldable pub routeRefusal : ℕ → List ℕ → List ℕ → List ℕ → ℕ → ℕ → ℕ → ℕ
-unfolding refusal dimension sized within works
-routeRefusal n status links vectors a b d =
+-- Decide, at source s for destination d
+unfoldable pub decideRefusal : Report → List ℕ → ℕ → ℕ → ℕ
+unfolding refusal dimension allSized within cube
+decideRefusal R vectors s d =
     refusal
-    ((not (dimension n), 1)
-    ∷ (not (sized n status && (sized n links && sized n vectors)), 2)
-    ∷ (not (within n a && within n b), 4)
-    ∷ (not (works status a), 5)
-    ∷ (not (works status d), 6)
+    ((not (dimension (R .dim)), 1)
+    ∷ (not (allSized R vectors), 2)
+    ∷ (not (within (R .dim) s && within (R .dim) d), 4)
+    ∷ (not (cube R .works s), 5)
+    ∷ (not (cube R .works d), 6)
+    ∷ [])
+
+-- Hop, at node a with a relative address
+unfoldable pub hopRefusal : Report → List ℕ → ℕ → ℕ → ℕ
+unfolding refusal dimension allSized within cube
+hopRefusal R vectors a nav =
+    refusal
+    ((not (dimension (R .dim)), 1)
+    ∷ (not (allSized R vectors), 2)
+    ∷ (not (within (R .dim) a && within (R .dim) nav), 4)
+    ∷ (not (cube R .works a), 5)
+    ∷ (not (cube R .works (bitXor a nav)), 6)
     ∷ [])

@@ -1,21 +1,20 @@
--- Wu's two routing rules, over the bits that the boards hold.
+-- Wu's two routing rules in a cube of dimension n, by the links that are cut and the bits that the boards hold.
 use Prim.Native.Nat.{ℕ, zero, suc, _+_}
 use mathlib.Core.Bool.{Bool, true, false, not, _&&_}
 use Rattle.cube.specs.Bits.{bit}
 use Rattle.cube.specs.Count.{pack}
 use Rattle.cube.specs.Reply.{Reply, refused, accepted}
-use Rattle.report.specs.Health.{Cube}
 use Rattle.safety.specs.Safety.{registered}
 
 -- dimension i is among dims, and a's neighbour along it has its bit, as registered at a
-unfoldable pub borne : Cube → (ℕ → Bool) → ℕ → ℕ → ℕ → Bool
+unfoldable pub borne : (ℕ → ℕ → Bool) → (ℕ → Bool) → ℕ → ℕ → ℕ → Bool
 unfolding bit registered
-borne C bits dims a i = bit dims i && registered (C .cut) bits a i
+borne cut bits dims a i = bit dims i && registered cut bits a i
 
 -- the mask of those dimensions
-unfoldable pub offer : Cube → (ℕ → Bool) → ℕ → ℕ → ℕ
+unfoldable pub offer : ℕ → (ℕ → ℕ → Bool) → (ℕ → Bool) → ℕ → ℕ → ℕ
 unfolding borne pack
-offer C bits dims a = pack (borne C bits dims a) (C .dim)
+offer n cut bits dims a = pack (borne cut bits dims a) n
 
 -- the mask of the spare dimensions of a relative address: those up to n that are not its one bits
 unfoldable pub spare : ℕ → ℕ → ℕ
@@ -51,11 +50,11 @@ choose false zero zero h = refused 7
 
 -- The rule at source s for a destination at distance H. P: the preferred dimensions whose neighbour has registered bit H−1.
 -- Q: the spare dimensions whose neighbour has registered bit H+1.
-unfoldable pub atSource : Cube → (ℕ → ℕ → Bool) → ℕ → ℕ → ℕ → Reply Choice
+unfoldable pub atSource : ℕ → (ℕ → ℕ → Bool) → (ℕ → ℕ → Bool) → ℕ → ℕ → ℕ → Reply Choice
 unfolding choose offer spare
-atSource C bits s nav zero = accepted home
-atSource C bits s nav (suc h) =
-    choose (bits (suc h) s) (offer C (bits h) nav s) (offer C (bits (suc (suc h))) (spare (C .dim) nav) s) (suc h)
+atSource n cut bits s nav zero = accepted home
+atSource n cut bits s nav (suc h) =
+    choose (bits (suc h) s) (offer n cut (bits h) nav s) (offer n cut (bits (suc (suc h))) (spare n nav) s) (suc h)
 
 -- an answer at a later node: the message has arrived, or may go along the dimensions of a mask
 pub data Next : Type 0 where
@@ -68,7 +67,7 @@ proceed zero = refused 9
 proceed (suc p) = accepted (onward (suc p))
 
 -- The rule at a later node a at distance H from the destination. P as at a source.
-unfoldable pub atNode : Cube → (ℕ → ℕ → Bool) → ℕ → ℕ → ℕ → Reply Next
+unfoldable pub atNode : ℕ → (ℕ → ℕ → Bool) → (ℕ → ℕ → Bool) → ℕ → ℕ → ℕ → Reply Next
 unfolding proceed offer
-atNode C bits a nav zero = accepted arrived
-atNode C bits a nav (suc h) = proceed (offer C (bits h) nav a)
+atNode n cut bits a nav zero = accepted arrived
+atNode n cut bits a nav (suc h) = proceed (offer n cut (bits h) nav a)

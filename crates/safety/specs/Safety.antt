@@ -8,6 +8,7 @@ use Rattle.cube.specs.Bits.{flip}
 use Rattle.cube.specs.Count.{pack, count, any}
 use Rattle.cube.specs.Table.{table}
 use Rattle.report.specs.Health.{Cube}
+use Rattle.report.specs.Report.{Report, cube}
 
 -- the bit of a's neighbour along dimension i, as registered at a: the neighbour's own, but 0 across a link that counts as faulty
 unfoldable pub registered : (ℕ → ℕ → Bool) → (ℕ → Bool) → ℕ → ℕ → Bool
@@ -41,6 +42,10 @@ vector C a = pack (bitsOf C a) (C .dim)
 unfoldable pub vectors : Cube → List ℕ
 unfolding vector table
 vectors C = table (vector C) (2 ^ (C .dim))
+
+-- the vectors of the cube that a report describes
+abbrev pub vectorsOf : Report → List ℕ
+vectorsOf R = vectors (cube R)
 
 -- with bit 0 taken as 1, every bit from 1 obeys one recurrence
 abbrev pub Recurrence : Type 0

@@ -17,7 +17,7 @@ use Rattle.cube.proofs.Bits.{flip-lt, bit-zero, pow-shift}
 use Rattle.cube.proofs.Count.{one-le, one-eqb, bit-pack, pack-lt, pack-cong, pack-zero, one-shift}
 use Rattle.cube.proofs.Table.{length-table, getD-table, table-ext, take-replicate}
 use Rattle.report.specs.Health.{Cube}
-use Rattle.report.specs.Report.{works, cut, cube, narrow}
+use Rattle.report.specs.Report.{Report, works, cut, cube, narrow}
 use Rattle.report.proofs.Report.{cut-none}
 use Rattle.safety.specs.Safety.{registered, supported, safe, bitsOf, vector, vectors}
 use Rattle.held.specs.Held.{own}
@@ -152,12 +152,13 @@ faults-none n links e =
     (λ a l. getD-replicate (2 ^ n) a 0 0 l ∙ sym (pack-zero (cut links a) n (λ i m. cut-none links e a (suc i))))
 
 -- over the masks the rounds give what the report says
-pub after-known : (n : ℕ) (status links : List ℕ) → after (known n status (allFaults n links)) n ≡ after (cube n status links) n
+pub after-known : (R : Report) → after (known (R .dim) (R .status) (allFaults (R .dim) (R .links))) (R .dim) ≡ after (cube R) (R .dim)
 unfolding after upTo bitsOf known cube
-after-known n status links =
-    let K : Cube = known n status (allFaults n links) in
-    let C : Cube = cube n status links in
+after-known R =
+    let n = R .dim in
+    let K : Cube = known n (R .status) (allFaults n (R .links)) in
+    let C : Cube = cube R in
     table-ext (upTo C n) (2 ^ n) (table (upTo K n) (2 ^ n)) (length-table (upTo K n) (2 ^ n))
     (λ a l. getD-table (upTo K n) (2 ^ n) a l
     ∙ pack-cong (bitsOf K a) (bitsOf C a) n
-    (λ i m. safe-cong n (works status) (λ b. masked (getD (allFaults n links) b 0) b) (cut links) (omega arith) (masked-faults n links) (suc i) a l))
+    (λ i m. safe-cong n (works (R .status)) (λ b. masked (getD (allFaults n (R .links)) b 0) b) (cut (R .links)) (omega arith) (masked-faults n (R .links)) (suc i) a l))

@@ -9,7 +9,7 @@ ghost use Rattle.cube.specs.Bits.{flip};
 ghost use Rattle.cube.specs.Count.{one, count};
 ghost use Rattle.cube.specs.Reply.{numberOf, OneAnswer};
 ghost use Rattle.cube.specs.Table.{table};
-ghost use Rattle.report.specs.Report.{works, cube};
+ghost use Rattle.report.specs.Report.{report, works, cube};
 ghost use Rattle.safety.specs.Safety.{registered, supported};
 ghost use Rattle.vectors.specs.Rounds.{after, digit, shown, Digits, allFaults, masked, known};
 ghost use Rattle.vectors.specs.Fill.{fillRefusal, fill, filled, said};
@@ -129,7 +129,9 @@ fn sum(n: u32, bytes: &[u8], a: usize) -> u32
 // The same along the five dimensions from i + 1 on, in the largest cabinet.
 fn five(bytes: &[u8], a: usize, i: u32) -> u32
     requires { ⌜ (i ≤ 5) × (a < 1024) × (length (now bytes) ≡ 1024) × Digits (now bytes) ⌝ }
-    ensures { λ r. ⌜ count (registered (masked 0) (shown (now (bytes .entry))) a) i + r ≡ count (registered (masked 0) (shown (now (bytes .entry))) a) (i + 5) ⌝ }
+    ensures { λ r.
+        let seen = registered (masked 0) (shown (now (bytes .entry))) a in
+        ⌜ count seen i + r ≡ count seen (i + 5) ⌝ }
 {
     let one = shown(bytes, a, i);
     let two = one + shown(bytes, a, i + 1);
@@ -163,7 +165,9 @@ fn heard_by(n: u32, mask: u16, bytes: &[u8], a: usize) -> u32
 // Bit k + 1 of node a by the bits k shown, as 1 or 0.
 fn next_bit(n: u32, status: &[u8], masks: &[u16], bytes: &[u8], a: usize, k: u32) -> u16
     requires { ⌜ (n ≤ 10) × (k < n) × (a < 2 ^ n) × (length (now masks) ≡ 2 ^ n) × (length (now bytes) ≡ 2 ^ n) × Digits (now bytes) ⌝ }
-    ensures { λ r. ⌜ r ≡ one (works (now (status .entry)) a && supported (known n (now (status .entry)) (now (masks .entry))) (shown (now (bytes .entry))) (suc k) a) ⌝ }
+    ensures { λ r.
+        let K = known n (now (status .entry)) (now (masks .entry)) in
+        ⌜ r ≡ one (K .works a && supported K (shown (now (bytes .entry))) (suc k) a) ⌝ }
 {
     let number = a as u16;
     if report::works(status, Node(number)) {
@@ -176,7 +180,8 @@ fn next_bit(n: u32, status: &[u8], masks: &[u16], bytes: &[u8], a: usize, k: u32
 
 // Round k: bit k + 1 of every vector, by the bits k shown.
 fn round(n: u32, status: &[u8], masks: &[u16], bytes: &[u8], vectors: &mut [u16], k: u32)
-    requires { ⌜ (n ≤ 10) × (k < n) × (length (now masks) ≡ 2 ^ n) × (now vectors ≡ after (known n (now status) (now masks)) k) × (now bytes ≡ table (digit (now vectors) k) (2 ^ n)) ⌝ }
+    requires { ⌜ (n ≤ 10) × (k < n) × (length (now masks) ≡ 2 ^ n)
+        × (now vectors ≡ after (known n (now status) (now masks)) k) × (now bytes ≡ table (digit (now vectors) k) (2 ^ n)) ⌝ }
     ensures { λ r. ⌜ now (vectors .exit) ≡ after (known n (now (status .entry)) (now (masks .entry))) (suc k) ⌝ }
 {
     let mut a: usize = 0;
@@ -210,8 +215,9 @@ fn by_rounds(
     bytes: &mut [u8],
     vectors: &mut [u16],
 )
-    requires { ⌜ (n ≤ 10) × (now masks ≡ replicate (2 ^ n) 0) × (now bytes ≡ replicate (2 ^ n) 1) × (length (now vectors) ≡ 2 ^ n) × (length (now links) ≡ 2 ^ n) ⌝ }
-    ensures { λ r. ⌜ now (vectors .exit) ≡ after (cube n (now (status .entry)) (now (links .entry))) n ⌝ }
+    requires { ⌜ (n ≤ 10) × (now masks ≡ replicate (2 ^ n) 0) × (now bytes ≡ replicate (2 ^ n) 1)
+        × (length (now vectors) ≡ 2 ^ n) × (length (now links) ≡ 2 ^ n) ⌝ }
+    ensures { λ r. ⌜ now (vectors .exit) ≡ after (cube (report n (now (status .entry)) (now (links .entry)))) n ⌝ }
 {
     gather(n, links, masks);
     all_rounds(n, status, masks, bytes, vectors);
@@ -234,7 +240,7 @@ fn room_for_bytes() -> [u8; 1024]
 // With room for 32 boards.
 fn in_few(n: u32, status: &[u8], links: &[u16], vectors: &mut [u16])
     requires { ⌜ (n ≤ 5) × (length (now vectors) ≡ 2 ^ n) × (length (now links) ≡ 2 ^ n) ⌝ }
-    ensures { λ r. ⌜ now (vectors .exit) ≡ after (cube n (now (status .entry)) (now (links .entry))) n ⌝ }
+    ensures { λ r. ⌜ now (vectors .exit) ≡ after (cube (report n (now (status .entry)) (now (links .entry)))) n ⌝ }
 {
     let nodes: usize = 1 << n;
     let mut masks = [0u16; 32];
@@ -252,7 +258,7 @@ fn in_few(n: u32, status: &[u8], links: &[u16], vectors: &mut [u16])
 // With room for 1,024 boards.
 fn in_many(n: u32, status: &[u8], links: &[u16], vectors: &mut [u16])
     requires { ⌜ (n ≤ 10) × (length (now vectors) ≡ 2 ^ n) × (length (now links) ≡ 2 ^ n) ⌝ }
-    ensures { λ r. ⌜ now (vectors .exit) ≡ after (cube n (now (status .entry)) (now (links .entry))) n ⌝ }
+    ensures { λ r. ⌜ now (vectors .exit) ≡ after (cube (report n (now (status .entry)) (now (links .entry)))) n ⌝ }
 {
     let nodes: usize = 1 << n;
     let mut masks = room_for_masks();
@@ -270,7 +276,7 @@ fn in_many(n: u32, status: &[u8], links: &[u16], vectors: &mut [u16])
 // All the vectors, in as much room as they take.
 fn write_vectors(n: u32, status: &[u8], links: &[u16], vectors: &mut [u16])
     requires { ⌜ (n ≤ 10) × (length (now vectors) ≡ 2 ^ n) × (length (now links) ≡ 2 ^ n) ⌝ }
-    ensures { λ r. ⌜ now (vectors .exit) ≡ after (cube n (now (status .entry)) (now (links .entry))) n ⌝ }
+    ensures { λ r. ⌜ now (vectors .exit) ≡ after (cube (report n (now (status .entry)) (now (links .entry)))) n ⌝ }
 {
     if n <= 5 {
         in_few(n, status, links, vectors);
@@ -281,7 +287,7 @@ fn write_vectors(n: u32, status: &[u8], links: &[u16], vectors: &mut [u16])
 
 // The number by which Fill refuses, 0 for none.
 fn fill_refusal(n: u32, status: &[u8], links: &[u16], vectors: &[u16]) -> u32
-    ensures { λ r. ⌜ r ≡ fillRefusal n (now (status .entry)) (now (links .entry)) (now (vectors .entry)) ⌝ }
+    ensures { λ r. ⌜ r ≡ fillRefusal (report n (now (status .entry)) (now (links .entry))) (now (vectors .entry)) ⌝ }
 {
     let by_3 = refused_unless(report::narrow(n, links), 3, 0);
     let sized = report::all_sized(n, status.len(), links.len(), vectors.len());
@@ -291,8 +297,9 @@ fn fill_refusal(n: u32, status: &[u8], links: &[u16], vectors: &[u16]) -> u32
 
 // Fill: writes all 2^n vectors into the lent slice.
 pub fn fill(n: u32, status: &[u8], links: &[u16], vectors: &mut [u16]) -> Filled
-    ensures answer { λ r. ⌜ said r ≡ fill n (now (status .entry)) (now (links .entry)) (now (vectors .entry)) ⌝ }
-    ensures memory { λ r. ⌜ now (vectors .exit) ≡ filled n (now (status .entry)) (now (links .entry)) (now (vectors .entry)) ⌝ }
+    ensures { λ r.
+        let R = report n (now (status .entry)) (now (links .entry)) in
+        ⌜ (said r ≡ fill R (now (vectors .entry))) × (now (vectors .exit) ≡ filled R (now (vectors .entry))) ⌝ }
 {
     let number = fill_refusal(n, status, links, vectors);
     if number != 0 {

@@ -6,7 +6,7 @@ use Rattle.arrival.proofs.completes.Tie as tie
 
 returns : tie.Need-returns
 unfolding Completes
-returns t n status links s d c legs a nav w = whole n status links s d c w
+returns t R s d c legs a nav w = whole R s d c w
 
 pub completes-spec : {M : Type 1} → statement M
 completes-spec = tie.close (tie.spec returns)

@@ -11,6 +11,7 @@ use Rattle.arrival.proofs.examples.Tie as tie
 returns : tie.Need-returns
 unfolding Examples vectors decide hop answer
 returns c = (
+  source refl,
   go {i = 3} (go {i = 4} (go {i = 1} (source refl) refl refl) refl refl) refl refl,
   go {i = 1} (go {i = 2} (go {i = 4} (source refl) refl refl) refl refl) refl refl,
   go {i = 4} (go {i = 1} (go {i = 3} (go {i = 4} (source refl) refl refl) refl refl) refl refl) refl refl,

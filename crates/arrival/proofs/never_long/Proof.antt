@@ -6,7 +6,7 @@ use Rattle.arrival.proofs.never_long.Tie as tie
 
 returns : tie.Need-returns
 unfolding NeverLong
-returns t n status links s d c legs a nav w = never-long n status links s d c w
+returns t R s d c legs a nav w = never-long R s d c w
 
 pub never-long-spec : {M : Type 1} → statement M
 never-long-spec = tie.close (tie.spec returns)

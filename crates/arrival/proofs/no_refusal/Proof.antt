@@ -6,7 +6,7 @@ use Rattle.arrival.proofs.no_refusal.Tie as tie
 
 returns : tie.Need-returns
 unfolding NoRefusal
-returns t n status links s d c l legs a nav k w = no-refusal n status links s d c w
+returns t R s d c l legs a nav k w = no-refusal R s d c w
 
 pub no-refusal-spec : {M : Type 1} → statement M
 no-refusal-spec = tie.close (tie.spec returns)

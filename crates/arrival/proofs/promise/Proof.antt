@@ -6,7 +6,7 @@ use Rattle.arrival.proofs.promise.Tie as tie
 
 returns : tie.Need-returns
 unfolding Promise
-returns t n status links s d c legs a nav w = kept n status links s d c w
+returns t R s d c legs a nav w = kept R s d c w
 
 pub promise-spec : {M : Type 1} → statement M
 promise-spec = tie.close (tie.spec returns)

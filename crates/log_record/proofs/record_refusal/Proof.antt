@@ -35,18 +35,18 @@ returns-2 c = sym (refuse-head _ _ (λ size kind. absurd (omega arith)))
 word-at-requires-3 : tie.Need-word-at-requires-3
 word-at-requires-3 c κs = search needs
 
-within-requires : tie.Need-within-requires
-within-requires c κs = search needs
+has-node-requires : tie.Need-has-node-requires
+has-node-requires c κs = search needs
 
 returns-3 : tie.Need-returns-3
 returns-3 c =
     sym (refuse-node _ _ (omega arith) (omega arith) (omega arith)
-    (sym (c .before .within .ensures ∙ ap (within (c .before .before .before .before .before .before .before .before .args .n)) (c .before .before .word-at3 .ensures)) ∙ not-true _ (c .if3 .taken)))
+    (sym (c .before .has-node .ensures ∙ ap (within (c .before .before .before .before .before .before .before .before .args .n)) (c .before .before .word-at3 .ensures)) ∙ not-true _ (c .if3 .taken)))
 
 returns-4 : tie.Need-returns-4
 returns-4 c =
     sym (refuse-none _ _ (omega arith) (omega arith) (omega arith)
-    (sym (c .before .within .ensures ∙ ap (within (c .before .before .before .before .before .before .before .before .args .n)) (c .before .before .word-at3 .ensures)) ∙ not-false _ (c .if3 .left)))
+    (sym (c .before .has-node .ensures ∙ ap (within (c .before .before .before .before .before .before .before .before .args .n)) (c .before .before .word-at3 .ensures)) ∙ not-false _ (c .if3 .left)))
 
 pub record-refusal-spec : {M : Type 1} → statement M
 record-refusal-spec =
@@ -61,6 +61,6 @@ record-refusal-spec =
     add-head
     returns-2
     word-at-requires-3
-    within-requires
+    has-node-requires
     returns-3
     returns-4)

@@ -7,46 +7,55 @@ use denote.Ref.{now}
 use Rattle.cube.specs.Bits.{weight}
 use Rattle.cube.specs.Reply.{refused}
 use Rattle.cube.proofs.Reply.{unless-some, unless-none}
-use Rattle.report.specs.Report.{cube}
+use Rattle.report.specs.Report.{Report, report, cut, cube}
 use Rattle.report.proofs.Report.{dimension-range}
 use Rattle.held.specs.Held.{own}
 use Rattle.rules.specs.Rules.{atSource}
-use Rattle.rules.specs.Refusals.{routeRefusal}
+use Rattle.rules.specs.Refusals.{decideRefusal}
 use Rattle.rules.specs.Decide.{decide}
-use Rattle.rules.proofs.Refusals.{clear-of-none, clear-lengths}
+use Rattle.rules.proofs.Refusals.{decide-clear, clear-lengths}
 use Rattle.routing.proofs.decide.Statement.{statement}
 use Rattle.routing.proofs.decide.Tie as tie
 
-route-refusal-requires : tie.Need-route-refusal-requires
-route-refusal-requires c κs = search needs
+-- the report that the call is given
+abbrev given : tie.Start → Report
+given s = report (s .args .n) (now (s .args .status)) (now (s .args .links))
+
+-- the number by which it is refused
+abbrev number : tie.Start → ℕ
+number s = decideRefusal (given s) (now (s .args .vectors)) (s .args .s .0) (s .args .d .0)
+
+decide-refusal-requires : tie.Need-decide-refusal-requires
+decide-refusal-requires c κs = search needs
 
 returns : tie.Need-returns
 unfolding decide
 returns c =
-    let a = c .before .before .before .before .before .args in
-    let e = c .before .route-refusal .ensures in
-    let nz : routeRefusal (a .n) (now (a .status)) (now (a .links)) (now (a .vectors)) (a .s .0) (a .d .0) (a .d .0) ≡ 0 → ⊥ = λ z. c .if1 .taken (e ∙ z) in
-    ap refused e ∙ sym (unless-some (routeRefusal (a .n) (now (a .status)) (now (a .links)) (now (a .vectors)) (a .s .0) (a .d .0) (a .d .0)) _ nz)
+    let s = c .before .before .before .before .before in
+    let e = c .before .decide-refusal .ensures in
+    ap refused e ∙ sym (unless-some (number s) _ (λ z. c .if1 .taken (e ∙ z)))
 
 to-requires : tie.Need-to-requires
 to-requires c κs = search needs
 
 at-source-requires : tie.Need-at-source-requires
 at-source-requires c κs =
-    let a = c .before .before .before .before .before .before .args in
-    let k = clear-of-none (a .n) (now (a .status)) (now (a .links)) (now (a .vectors)) (a .s .0) (a .d .0) (a .d .0) (sym (c .before .before .route-refusal .ensures) ∙ c .before .if1 .left) in
-    let l = clear-lengths (a .n) (now (a .status)) (now (a .links)) (now (a .vectors)) (a .s .0) (a .d .0) (a .d .0) k in
+    let s = c .before .before .before .before .before .before in
+    let a = s .args in
+    let k = decide-clear (given s) (now (a .vectors)) (a .s .0) (a .d .0) (sym (c .before .before .decide-refusal .ensures) ∙ c .before .if1 .left) in
+    let l = clear-lengths (given s) (now (a .vectors)) (a .s .0) (a .d .0) (a .d .0) k in
     (dimension-range (a .n) (k .dim) .1, l .0, l .1, k .node, rw (c .to .ensures) (xor-lt (a .n) (a .s .0) (a .d .0) (k .node) (k .other)))
 
 returns-2 : tie.Need-returns-2
-unfolding decide
+unfolding decide cube
 returns-2 c =
-    let a = c .before .before .before .before .before .before .before .args in
-    let z = sym (c .before .before .before .route-refusal .ensures) ∙ c .before .before .if1 .left in
-    c .at-source .ensures (now (a .status))
-    ∙ ap (λ (x : ℕ). atSource (cube (a .n) (now (a .status)) (now (a .links))) (own (now (a .vectors))) (a .s .0) x (weight x)) (c .before .to .ensures)
-    ∙ sym (unless-none (routeRefusal (a .n) (now (a .status)) (now (a .links)) (now (a .vectors)) (a .s .0) (a .d .0) (a .d .0)) _ z)
+    let tested = c .before .before in
+    let s = tested .before .before .before .before .before in
+    let a = s .args in
+    c .at-source .ensures
+    ∙ ap (λ (x : ℕ). atSource (a .n) (cut (now (a .links))) (own (now (a .vectors))) (a .s .0) x (weight x)) (c .before .to .ensures)
+    ∙ sym (unless-none (number s) _ (sym (tested .before .decide-refusal .ensures) ∙ tested .if1 .left))
 
 pub decide-spec : {M : Type 1} → statement M
 decide-spec =
-    tie.close (tie.spec route-refusal-requires returns to-requires at-source-requires returns-2)
+    tie.close (tie.spec decide-refusal-requires returns to-requires at-source-requires returns-2)

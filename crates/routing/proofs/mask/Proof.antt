@@ -5,7 +5,7 @@ use borrow.Author.Needs.{needs}
 use lib.Bits.{bitAnd}
 use denote.Ref.{now}
 use Rattle.cube.proofs.Count.{pack-and}
-use Rattle.report.specs.Report.{cut, cube}
+use Rattle.report.specs.Report.{cut}
 use Rattle.safety.specs.Safety.{registered}
 use Rattle.held.specs.Held.{own}
 use Rattle.held.proofs.Held.{heard-at}
@@ -17,8 +17,8 @@ heard-requires : tie.Need-heard-requires
 heard-requires c κs = search needs
 
 returns : tie.Need-returns
-unfolding offer borne cube
-returns c = λ status.
+unfolding offer borne
+returns c =
     let s = c .before .before .before in
     let a = s .args in
     let p = s .pre in

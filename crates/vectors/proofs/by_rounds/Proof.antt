@@ -6,6 +6,7 @@ use native.Mathlib.Omega.{arith}
 use borrow.Author.Needs.{needs}
 use lib.ListN.{length, length-replicate}
 use denote.Ref.{now}
+use Rattle.report.specs.Report.{report}
 use Rattle.vectors.specs.Rounds.{after, known}
 use Rattle.vectors.proofs.Rounds.{after-known}
 use Rattle.vectors.proofs.by_rounds.Statement.{statement}
@@ -33,7 +34,7 @@ returns c =
     let a = c .before .before .before .before .before .before .before .before .before .before .before .before .before .before .before .before .before .args in
     c .before .before .before .before .all-rounds .ensures
     ∙ ap (λ (masks : List ℕ). after (known (a .n) (now (a .status)) masks) (a .n)) (c .before .before .before .before .before .before .before .before .before .before .gather .ensures)
-    ∙ after-known (a .n) (now (a .status)) (now (a .links))
+    ∙ after-known (report (a .n) (now (a .status)) (now (a .links)))
 
 pub by-rounds-spec : {M : Type 1} → statement M
 by-rounds-spec =

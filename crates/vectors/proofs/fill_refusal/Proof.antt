@@ -1,5 +1,6 @@
 -- `vectors::fill_refusal` meets its contract: its tests are those of the list.
 use borrow.Author.Needs.{needs}
+use Rattle.report.specs.Report.{allSized}
 use Rattle.vectors.specs.Fill.{fillRefusal}
 use Rattle.vectors.proofs.fill_refusal.Statement.{statement}
 use Rattle.vectors.proofs.fill_refusal.Tie as tie
@@ -23,7 +24,7 @@ refused-unless-requires-3 : tie.Need-refused-unless-requires-3
 refused-unless-requires-3 c κs = search needs
 
 returns : tie.Need-returns
-unfolding fillRefusal
+unfolding fillRefusal allSized
 returns c =
     let sizes = c .before .before in
     let links = sizes .before .before in

@@ -56,6 +56,7 @@ returns-2 c =
     (enough (known (a .n) (now (a .status)) (now (a .masks))) (shown (now (a .bytes))) (suc (a .k)) (a .a) (lt-of-lt-of-le (omega (arith, c .if2 .left)) (le-of-eq (c .before .heard-by .ensures))))))
 
 returns-3 : tie.Need-returns-3
+unfolding known
 returns-3 c =
     let a = c .before .before .before .before .before .args in
     sym

@@ -1,8 +1,9 @@
--- `routing::route_refusal` meets its contract: its tests are those of the list.
+-- `routing::decide_refusal` meets its contract: its tests are those of the list.
 use borrow.Author.Needs.{needs}
-use Rattle.rules.specs.Refusals.{routeRefusal}
-use Rattle.routing.proofs.route_refusal.Statement.{statement}
-use Rattle.routing.proofs.route_refusal.Tie as tie
+use Rattle.report.specs.Report.{allSized, cube}
+use Rattle.rules.specs.Refusals.{decideRefusal}
+use Rattle.routing.proofs.decide_refusal.Statement.{statement}
+use Rattle.routing.proofs.decide_refusal.Tie as tie
 
 works-requires : tie.Need-works-requires
 works-requires c κs = search needs
@@ -16,8 +17,11 @@ works-requires-2 c κs = search needs
 refused-unless-requires-2 : tie.Need-refused-unless-requires-2
 refused-unless-requires-2 c κs = search needs
 
-both-within-requires : tie.Need-both-within-requires
-both-within-requires c κs = search needs
+has-node-requires : tie.Need-has-node-requires
+has-node-requires c κs = search needs
+
+has-node-requires-2 : tie.Need-has-node-requires-2
+has-node-requires-2 c κs = search needs
 
 refused-unless-requires-3 : tie.Need-refused-unless-requires-3
 refused-unless-requires-3 c κs = search needs
@@ -35,11 +39,11 @@ refused-unless-requires-5 : tie.Need-refused-unless-requires-5
 refused-unless-requires-5 c κs = search needs
 
 returns : tie.Need-returns
-unfolding routeRefusal
+unfolding decideRefusal allSized cube
 returns c =
     let sizes = c .before .before in
     let nodes = sizes .before .before in
-    let here = nodes .before .before in
+    let here = nodes .before .before .before in
     let there = here .before .before in
     rw (
       c .refused-unless5 .ensures,
@@ -47,22 +51,24 @@ returns c =
       sizes .refused-unless4 .ensures,
       sizes .before .all-sized .ensures,
       nodes .refused-unless3 .ensures,
-      nodes .before .both-within .ensures,
+      nodes .before .has-node2 .ensures,
+      nodes .before .before .has-node .ensures,
       here .refused-unless2 .ensures,
       here .before .works2 .ensures,
       there .refused-unless .ensures,
       there .before .works .ensures,
     )
 
-pub route-refusal-spec : {M : Type 1} → statement M
-route-refusal-spec =
+pub decide-refusal-spec : {M : Type 1} → statement M
+decide-refusal-spec =
     tie.close
     (tie.spec
     works-requires
     refused-unless-requires
     works-requires-2
     refused-unless-requires-2
-    both-within-requires
+    has-node-requires
+    has-node-requires-2
     refused-unless-requires-3
     all-sized-requires
     refused-unless-requires-4
