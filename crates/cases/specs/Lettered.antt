@@ -6,17 +6,17 @@ use mathlib.Core.List.{List, [], _∷_, map}
 use lib.Bits.{bitXor}
 use lib.Count.{ones}
 use lib.Dec.{eqb}
-use lib.ListN.{replicate}
+use lib.ListN.{length, replicate}
 use Rattle.cube.specs.Bits.{weight}
 use Rattle.cube.specs.Reply.{Reply, refused, accepted}
 use Rattle.report.specs.Class.{classOf}
-use Rattle.report.specs.Report.{works, cube}
+use Rattle.report.specs.Report.{Report, report, works, cube}
+use Rattle.report.specs.Cabinets.{cabinetF, cabinetL}
 use Rattle.report.specs.declared.Class.{Class}
 use Rattle.report.specs.declared.Class.the-variants.{Silent, Working, Late, Down, Empty}
-use Rattle.safety.specs.Safety.{vectors}
+use Rattle.safety.specs.Safety.{vectors, vectorsOf}
 use Rattle.rules.specs.Rules.{Choice, home, assured, lent, detour}
 use Rattle.journey.specs.Journey.{Route, journey}
-use Rattle.cases.specs.Cabinets.{zeros, statusF, statusL, linksL}
 
 -- what a case speaks of: a table of vectors, a journey, a path by hand, or classes
 pub data Shown : Type 0 where
@@ -36,17 +36,17 @@ passes status [] = true
 passes status (a ∷ []) = works status a
 passes status (a ∷ (b ∷ bs)) = works status a && (eqb (weight (bitXor a b)) 1 && passes status (b ∷ bs))
 
--- a journey with all picks 0, in a cube of dimension n with 2^n boards
-unfoldable pub trip : ℕ → ℕ → List ℕ → List ℕ → ℕ → ℕ → Shown
+-- a journey with all picks 0
+unfoldable pub trip : Report → ℕ → ℕ → Shown
 unfolding journey
-trip n boards status links s d =
-    goes (journey n status links (replicate boards 0) (replicate (suc n) 0) (replicate (suc (suc n)) 0) s d)
+trip R s d =
+    goes (journey R (replicate (length (R .status)) 0) (replicate (suc (R .dim)) 0) (replicate (suc (suc (R .dim))) 0) s d)
 
 abbrev pub inF : ℕ → ℕ → Shown
-inF s d = trip 4 16 statusF zeros s d
+inF s d = trip cabinetF s d
 
 abbrev pub inL : ℕ → ℕ → Shown
-inL s d = trip 4 16 statusL linksL s d
+inL s d = trip cabinetL s d
 
 -- a journey accepted, with the boards after its source
 abbrev pub by : Choice → List ℕ → Shown
@@ -60,7 +60,7 @@ unfolding vectors cube trip passes classOf
 lettered =
     -- A
     record {
-      gives = words (vectors (cube 4 statusF zeros));
+      gives = words (vectorsOf cabinetF);
       says = words (11 ∷ 5 ∷ 13 ∷ 0 ∷ 0 ∷ 11 ∷ 0 ∷ 13 ∷ 15 ∷ 0 ∷ 15 ∷ 13 ∷ 15 ∷ 15 ∷ 15 ∷ 15 ∷ []);
     }
     -- B
@@ -73,7 +73,7 @@ lettered =
     ∷ record { gives = inF 0 7; says = by (detour 8 5) (8 ∷ 10 ∷ 14 ∷ 15 ∷ 7 ∷ []) }
     -- G
     ∷ record { gives = inF 1 11; says = refuses 7 }
-    ∷ record { gives = passable (passes statusF (1 ∷ 0 ∷ 2 ∷ 10 ∷ 11 ∷ [])); says = passable true }
+    ∷ record { gives = passable (passes (cabinetF .status) (1 ∷ 0 ∷ 2 ∷ 10 ∷ 11 ∷ [])); says = passable true }
     -- H
     ∷ record { gives = inF 0 0; says = by home [] }
     ∷ record { gives = inF 3 0; says = refuses 5 }
@@ -85,7 +85,7 @@ lettered =
     -- K
     ∷ record { gives = inL 12 13; says = by (detour 2 3) (14 ∷ 15 ∷ 13 ∷ []) }
     -- M
-    ∷ record { gives = trip 1 2 (1 ∷ 1 ∷ []) (1 ∷ 0 ∷ []) 0 1; says = refuses 7 }
+    ∷ record { gives = trip (report 1 (1 ∷ 1 ∷ []) (1 ∷ 0 ∷ [])) 0 1; says = refuses 7 }
     -- N
     ∷ record {
       gives = classed (map classOf (0 ∷ 1 ∷ 4 ∷ 5 ∷ 253 ∷ 254 ∷ 255 ∷ []));

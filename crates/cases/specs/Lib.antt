@@ -1,2 +1,1 @@
-pub mod Cabinets
 pub mod Lettered

@@ -1,4 +1,4 @@
-// The door for C and Rust: every job on numbers and slices alone.
+// The C interface: every job on numbers and slices alone.
 use cube::Nav;
 use cube::Node;
 use journey::Trip;
@@ -11,6 +11,7 @@ use routing::Step;
 ghost use mathlib.Core.Path.{_≡_};
 ghost use Rattle.cube.specs.Reply.{numberOf};
 ghost use Rattle.report.specs.Class.{classOf};
+ghost use Rattle.report.specs.Report.{report};
 ghost use Rattle.vectors.specs.Fill.{fill, filled};
 ghost use Rattle.rules.specs.Rules.{maskOf};
 ghost use Rattle.rules.specs.Decide.{decide};
@@ -21,7 +22,7 @@ ghost use Rattle.journey.specs.Journey as travelling;
 ghost use Rattle.record.specs.Open as opening;
 ghost use Rattle.log_rules.specs.Refresh as refreshing;
 ghost use Rattle.log.specs.Answer as logging;
-ghost use Rattle.deruvain.specs.Door.{classNumber, kindNumber, Says, Decided, Hopped, Travelled, Read, Skipped};
+ghost use Rattle.deruvain.specs.Numbers.{classNumber, kindNumber, Says, Decided, Hopped, Travelled, Read, Skipped};
 
 // A job's answer: the refusal's number, 0 for an acceptance, and the acceptance's numbers, 0 after a refusal.
 #[repr(C)]
@@ -70,8 +71,9 @@ pub extern "C" fn deruvain_class(byte: u8) -> u32
 // Fill: the refusal's number, 0 for done.
 #[no_mangle]
 pub extern "C" fn deruvain_fill(n: u32, status: &[u8], links: &[u16], vectors: &mut [u16]) -> u32
-    ensures answer { λ r. ⌜ r ≡ numberOf (fill n (now (status .entry)) (now (links .entry)) (now (vectors .entry))) ⌝ }
-    ensures memory { λ r. ⌜ now (vectors .exit) ≡ filled n (now (status .entry)) (now (links .entry)) (now (vectors .entry)) ⌝ }
+    ensures { λ r.
+        let R = report n (now (status .entry)) (now (links .entry)) in
+        ⌜ (r ≡ numberOf (fill R (now (vectors .entry)))) × (now (vectors .exit) ≡ filled R (now (vectors .entry))) ⌝ }
 {
     vectors::fill(n, status, links, vectors).number()
 }
@@ -133,7 +135,9 @@ pub extern "C" fn deruvain_decide(
     source: u16,
     destination: u16,
 ) -> Answer
-    ensures { λ r. ⌜ Decided r (decide n (now (status .entry)) (now (links .entry)) (now (vectors .entry)) source destination) ⌝ }
+    ensures { λ r.
+        let R = report n (now (status .entry)) (now (links .entry)) in
+        ⌜ Decided r (decide R (now (vectors .entry)) source destination) ⌝ }
 {
     of_decision(routing::decide(n, status, links, vectors, Node(source), Node(destination)))
 }
@@ -164,7 +168,9 @@ pub extern "C" fn deruvain_hop(
     node: u16,
     relative: u16,
 ) -> Answer
-    ensures { λ r. ⌜ Hopped r (hop n (now (status .entry)) (now (links .entry)) (now (vectors .entry)) node relative) ⌝ }
+    ensures { λ r.
+        let R = report n (now (status .entry)) (now (links .entry)) in
+        ⌜ Hopped r (hop R (now (vectors .entry)) node relative) ⌝ }
 {
     of_step(routing::hop(n, status, links, vectors, Node(node), Nav(relative)))
 }
@@ -191,9 +197,14 @@ pub extern "C" fn deruvain_journey(
     source: u16,
     destination: u16,
 ) -> Answer
-    ensures answer { λ r. ⌜ Travelled r (travelling.arrival (travelling.journey n (now (status .entry)) (now (links .entry)) (now (vectors .entry)) (now (picks .entry)) (now (path .entry)) source destination)) ⌝ }
-    ensures filled { λ r. ⌜ now (vectors .exit) ≡ travelling.vectorsAfter n (now (status .entry)) (now (links .entry)) (now (vectors .entry)) (now (picks .entry)) (now (path .entry)) source destination ⌝ }
-    ensures walked { λ r. ⌜ now (path .exit) ≡ travelling.pathAfter n (now (status .entry)) (now (links .entry)) (now (vectors .entry)) (now (picks .entry)) (now (path .entry)) source destination ⌝ }
+    ensures { λ r.
+        let R = report n (now (status .entry)) (now (links .entry)) in
+        let vecs = now (vectors .entry) in
+        let picked = now (picks .entry) in
+        let road = now (path .entry) in
+        ⌜ Travelled r (travelling.outcome (travelling.journey R vecs picked road source destination))
+        × (now (vectors .exit) ≡ travelling.vectorsAfter R vecs picked road source destination)
+        × (now (path .exit) ≡ travelling.pathAfter R vecs picked road source destination) ⌝ }
 {
     of_trip(journey::journey(
         n,
@@ -224,8 +235,8 @@ fn of_opened(opened: Opened) -> Record
 #[no_mangle]
 pub extern "C" fn deruvain_open(bytes: &[u8], status: &mut [u8], links: &mut [u16]) -> Record
     ensures answer { λ r. ⌜ Read r (opening.opened (now (bytes .entry)) (now (status .entry)) (now (links .entry))) ⌝ }
-    ensures boards { λ r. ⌜ now (status .exit) ≡ opening.statusAfter (now (bytes .entry)) (now (status .entry)) (now (links .entry)) ⌝ }
-    ensures words { λ r. ⌜ now (links .exit) ≡ opening.linksAfter (now (bytes .entry)) (now (status .entry)) (now (links .entry)) ⌝ }
+    ensures boards { λ r. ⌜ now (status .exit) ≡ opening.statusOpened (now (bytes .entry)) (now (status .entry)) (now (links .entry)) ⌝ }
+    ensures words { λ r. ⌜ now (links .exit) ≡ opening.linksOpened (now (bytes .entry)) (now (status .entry)) (now (links .entry)) ⌝ }
 {
     of_opened(record::open(bytes, status, links))
 }

@@ -1,3 +1,3 @@
-pub mod Walks
+pub mod Courses
 pub mod Refusals
 pub mod Promise

@@ -10,8 +10,8 @@ use Rattle.cube.specs.Bits.{flip}
 use Rattle.cube.specs.Reply.{Reply, refused, accepted}
 use Rattle.cube.proofs.Bits.{bit-pos}
 use Rattle.cube.proofs.Reply.{unless-accepted, refused-accepted}
-use Rattle.report.specs.Report.{cube}
-use Rattle.safety.specs.Safety.{vectors}
+use Rattle.report.specs.Report.{Report}
+use Rattle.safety.specs.Safety.{vectorsOf}
 use Rattle.rules.specs.Rules.{Choice, maskOf, hopsOf, onward}
 use Rattle.rules.specs.Decide.{decide}
 use Rattle.arrival.specs.Walk.{Leg, answer, Walk, source, go, boards}
@@ -51,35 +51,35 @@ list-ends x y xs ys e =
 
 -- ---- walks
 
-module _ (n : ℕ) (status links picks : List ℕ) (s d : ℕ) (c : Choice) where
+module _ (R : Report) (picks : List ℕ) (s d : ℕ) (c : Choice) where
   -- the vectors that Fill writes
   abbrev words : List ℕ
-  words = vectors (cube n status links)
+  words = vectorsOf R
 
   -- a walk to the end, over the boards of a walk so far and those after it
   abbrev Ends : List Leg → ℕ → List ℕ → Type 0
   Ends legs a after =
-      (whole : List Leg) × Walk n status links s d c whole d 0 × (reverseAux (a ∷ boards legs) after ≡ reverse (d ∷ boards whole))
+      (whole : List Leg) × Walk R s d c whole d 0 × (reverseAux (a ∷ boards legs) after ≡ reverse (d ∷ boards whole))
 
-  module _ {legs : List Leg} {a nav : ℕ} (w : Walk n status links s d c legs a nav) where
+  module _ {legs : List Leg} {a nav : ℕ} (w : Walk R s d c legs a nav) where
     -- a walk that has made its hops is at the end
     ends : length legs ≡ hopsOf c → Ends legs a []
     ends e =
-        let home : a ≡ d = kept n status links s d c w .exact .1 e in
-        let none : nav ≡ 0 = kept n status links s d c w .address ∙ ap (λ (x : ℕ). bitXor x d) home ∙ xor-self d in
-        (legs, subst₂ (λ (x y : ℕ). Walk n status links s d c legs x y) home none w, ap (λ (x : ℕ). reverse (x ∷ boards legs)) home)
+        let home : a ≡ d = kept R s d c w .exact .1 e in
+        let none : nav ≡ 0 = kept R s d c w .address ∙ ap (λ (x : ℕ). bitXor x d) home ∙ xor-self d in
+        (legs, subst₂ (λ (x y : ℕ). Walk R s d c legs x y) home none w, ap (λ (x : ℕ). reverse (x ∷ boards legs)) home)
 
     -- short of it the board offers a mask, and the walk goes on by any pick
     offers : (length legs ≡ hopsOf c → ⊥)
-        → (mask : ℕ) × (answer n status links c legs a nav ≡ accepted (onward mask))
-        × ((pick : ℕ) → let i = taken n mask pick in Walk n status links s d c (record { board = a; along = i } ∷ legs) (flip a i) (flip nav i))
+        → (mask : ℕ) × (answer R c legs a nav ≡ accepted (onward mask))
+        × ((pick : ℕ) → let i = taken (R .dim) mask pick in Walk R s d c (record { board = a; along = i } ∷ legs) (flip a i) (flip nav i))
     offers short =
-        let (mask, i, q, b) = kept n status links s d c w .offered (λ home. short (kept n status links s d c w .exact .0 home)) in
-        (mask, q, λ pick. go w q (taken-in n mask pick (bit-pos mask i b) (offered-small n status links s d c w q)))
+        let (mask, i, q, b) = kept R s d c w .offered (λ home. short (kept R s d c w .exact .0 home)) in
+        (mask, q, λ pick. go w q (taken-in (R .dim) mask pick (bit-pos mask i b) (offered-small R s d c w q)))
 
   -- the boards after a later one
-  hops-walk : (k j : ℕ) {l : Leg} {legs : List Leg} {a nav : ℕ} (bs : List ℕ) → Walk n status links s d c (l ∷ legs) a nav
-      → length (l ∷ legs) + k ≡ hopsOf c → hops n status links words picks k j a nav ≡ accepted bs → Ends (l ∷ legs) a bs
+  hops-walk : (k j : ℕ) {l : Leg} {legs : List Leg} {a nav : ℕ} (bs : List ℕ) → Walk R s d c (l ∷ legs) a nav
+      → length (l ∷ legs) + k ≡ hopsOf c → hops R words picks k j a nav ≡ accepted bs → Ends (l ∷ legs) a bs
   unfolding hops follow answer boards
   hops-walk zero j {l} {legs} {a} bs w e h = let none : [] ≡ bs = cc in subst (Ends (l ∷ legs) a) none (ends w (omega arith))
   hops-walk (suc k) j {l} {legs} {a} bs w e h =
@@ -88,8 +88,8 @@ module _ (n : ℕ) (status links picks : List ℕ) (s d : ℕ) (c : Choice) wher
       subst (Ends (l ∷ legs) a) same (hops-walk k (suc j) cs (on (getD picks j 0)) (omega arith) rest)
 
   -- the boards after the source
-  leave-walk : (k : ℕ) (bs : List ℕ) → decide n status links words s d ≡ accepted c → k ≡ hopsOf c
-      → leave n status links words picks s (bitXor s d) (maskOf c) k ≡ accepted bs → Ends [] s bs
+  leave-walk : (k : ℕ) (bs : List ℕ) → decide R words s d ≡ accepted c → k ≡ hopsOf c
+      → leave R words picks s (bitXor s d) (maskOf c) k ≡ accepted bs → Ends [] s bs
   unfolding leave answer boards
   leave-walk zero bs a e h = let none : [] ≡ bs = cc in subst (Ends [] s) none (ends (source a) e)
   leave-walk (suc k) bs a e h =
@@ -97,16 +97,16 @@ module _ (n : ℕ) (status links picks : List ℕ) (s d : ℕ) (c : Choice) wher
       let (cs, rest, same) = via-accepted _ _ bs (rw (told-mask c mask q) at h) in
       subst (Ends [] s) same (hops-walk k 1 cs (on (getD picks 0 0)) (omega arith) rest)
 
-module _ (n : ℕ) (status links vecs picks path : List ℕ) (s d : ℕ) (r : Route) (e : journey n status links vecs picks path s d ≡ accepted r) where
-  pub journey-walks : (legs : List Leg) × Walk n status links s d (r .choice) legs d 0 × (s ∷ r .after ≡ reverse (d ∷ boards legs))
+module _ (R : Report) (vecs picks path : List ℕ) (s d : ℕ) (r : Route) (e : journey R vecs picks path s d ≡ accepted r) where
+  pub journey-walks : (legs : List Leg) × Walk R s d (r .choice) legs d 0 × (s ∷ r .after ≡ reverse (d ∷ boards legs))
   unfolding journey route leaving boards
   journey-walks =
-      let (z, q) = unless-accepted (journeyRefusal n status links vecs picks path s d) (route n status links picks s d) r e in
+      let (z, q) = unless-accepted (journeyRefusal R vecs picks path s d) (route R picks s d) r e in
       let (a, on) = departed _ _ r q in
-      leave-walk n status links picks s d (r .choice) _ (r .after) a refl on
+      leave-walk R picks s d (r .choice) _ (r .after) a refl on
 
   pub journey-arrives : (getD (s ∷ r .after) (length (r .after)) 0 ≡ d) × (length (r .after) ≡ hopsOf (r .choice))
   journey-arrives =
       let (legs, w, p) = journey-walks in
       let (last, long) = list-ends s d (r .after) (boards legs) p in
-      (last, long ∙ length-boards legs ∙ kept n status links s d (r .choice) w .exact .0 refl)
+      (last, long ∙ length-boards legs ∙ kept R s d (r .choice) w .exact .0 refl)

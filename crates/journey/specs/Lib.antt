@@ -1,3 +1,3 @@
 pub mod Journey
-pub mod Walk
+pub mod Course
 pub mod Promise

@@ -4,6 +4,7 @@ use mathlib.Core.Path.{_≡_}
 use mathlib.Core.List.{List, _∷_, reverse}
 use lib.ListN.{length, getD}
 use Rattle.cube.specs.Reply.{accepted}
+use Rattle.report.specs.Report.{Report}
 use Rattle.rules.specs.Rules.{hopsOf}
 use Rattle.arrival.specs.Walk.{Leg, Walk, boards}
 use Rattle.journey.specs.Journey.{Route, journey}
@@ -11,13 +12,13 @@ use Rattle.journey.specs.Journey.{Route, journey}
 -- Every journey is one of demand 3's walks, arrived: the path is the boards that its legs left, and the destination. Legs stand latest first.
 unfoldable pub JourneyWalks : Type 0
 JourneyWalks =
-    (n : ℕ) (status links vecs picks path : List ℕ) (s d : ℕ) (r : Route)
-    → journey n status links vecs picks path s d ≡ accepted r
-    → (legs : List Leg) × Walk n status links s d (r .choice) legs d 0 × (s ∷ r .after ≡ reverse (d ∷ boards legs))
+    (R : Report) (vecs picks path : List ℕ) (s d : ℕ) (r : Route)
+    → journey R vecs picks path s d ≡ accepted r
+    → (legs : List Leg) × Walk R s d (r .choice) legs d 0 × (s ∷ r .after ≡ reverse (d ∷ boards legs))
 
 -- so the last board of the path is the destination, and the hops made are those promised
 unfoldable pub JourneyArrives : Type 0
 JourneyArrives =
-    (n : ℕ) (status links vecs picks path : List ℕ) (s d : ℕ) (r : Route)
-    → journey n status links vecs picks path s d ≡ accepted r
+    (R : Report) (vecs picks path : List ℕ) (s d : ℕ) (r : Route)
+    → journey R vecs picks path s d ≡ accepted r
     → (getD (s ∷ r .after) (length (r .after)) 0 ≡ d) × (length (r .after) ≡ hopsOf (r .choice))

@@ -13,14 +13,15 @@ ghost use Prim.Native.Nat.{_+_, _-_, _≤_, _<_};
 ghost use lib.Dec.{leb};
 ghost use lib.ListN.{length, take, drop};
 ghost use Rattle.cube.specs.Reply.{accepted, isRefusal, OneAnswer};
+ghost use Rattle.report.specs.Report.{report};
 ghost use Rattle.routing.specs.Hop as hopping;
 ghost use Rattle.vectors.specs.Fill as filling;
 ghost use Rattle.routing.specs.Decide as deciding;
 ghost use Rattle.rules.specs.Decide.{decide};
 ghost use Rattle.routing.specs.Decide.{chosen};
-ghost use Rattle.journey.specs.Journey.{hops, leave, leaving, routeBy, depart, journeyRefusal, journey, arrival, vectorsAfter, pathBy, pathAfter, said};
+ghost use Rattle.journey.specs.Journey.{hops, leave, leaving, routeBy, depart, journeyRefusal, journey, outcome, vectorsAfter, pathBy, pathAfter, said};
 ghost use Rattle.journey.specs.Promise.{JourneyWalks, JourneyArrives};
-ghost use Rattle.journey.specs.Walk.{came, stopped, Crossed, Followed, through};
+ghost use Rattle.journey.specs.Course.{came, stopped, Crossed, Followed, through};
 
 // What Journey answers: the source's kind and the hops made.
 pub enum Trip {
@@ -28,9 +29,9 @@ pub enum Trip {
     Refused(u32),
 }
 
-// A walk under way: where the message is, its relative address, the boards after the source and how many there are, whether it is over, whether it
+// A journey under way: where the message is, its relative address, the boards after the source and how many there are, whether it is over, whether it
 // was refused, and the number.
-struct Walk {
+struct Course {
     node: Node,
     nav: Nav,
     boards: [u16; 11],
@@ -51,12 +52,12 @@ fn is_refusal(answer: Step) -> bool
     }
 }
 
-impl Walk {
+impl Course {
     // The walk at its source.
-    fn begin(s: Node, nav: Nav) -> Walk
+    fn begin(s: Node, nav: Nav) -> Course
         ensures { λ r. ⌜ (r .node ≡ s) × (r .nav ≡ nav) × (r .made ≡ 0) × (r .over ≡ false) × (r .refused ≡ false) ⌝ }
     {
-        Walk {
+        Course {
             node: s,
             nav,
             boards: [0u16; 11],
@@ -68,7 +69,7 @@ impl Walk {
     }
 
     // One hop further, along dimension i.
-    fn cross(self, i: u32) -> Walk
+    fn cross(self, i: u32) -> Course
         requires { ⌜ (i ≤ 10) × (self .made < 11) ⌝ }
         ensures { λ r. ⌜ Crossed self i r ⌝ }
     {
@@ -77,7 +78,7 @@ impl Walk {
         let made = self.made;
         let mut boards = self.boards;
         boards[made] = node.0;
-        Walk {
+        Course {
             node,
             nav,
             boards,
@@ -89,8 +90,10 @@ impl Walk {
     }
 
     // Over, at its end or by a refusal.
-    fn stop(self, answer: Step) -> Walk
-        ensures { λ r. ⌜ (r .over ≡ true) × (r .made ≡ self .made) × (came r ≡ stopped (hopping.said answer) (take (self .made) (self .boards))) ⌝ }
+    fn stop(self, answer: Step) -> Course
+        ensures { λ r.
+            let boards = take (self .made) (self .boards) in
+            ⌜ (r .over ≡ true) × (r .made ≡ self .made) × (came r ≡ stopped (hopping.said answer) boards) ⌝ }
     {
         let mut w = self;
         w.over = true;
@@ -100,7 +103,7 @@ impl Walk {
     }
 
     // What Hop's answer makes of the walk: its offer goes on by the pick, or its refusal number is handed out.
-    fn follow(self, n: u32, answer: Step, pick: u8) -> Walk
+    fn follow(self, n: u32, answer: Step, pick: u8) -> Course
         requires { ⌜ (n ≤ 10) × (self .made < 11) ⌝ }
         ensures { λ r. ⌜ Followed n self (hopping.said answer) pick r ⌝ }
     {
@@ -118,11 +121,15 @@ fn onward(
     links: &[u16],
     vectors: &[u16],
     picks: &[u8],
-    first: Walk,
+    first: Course,
     promised: usize,
-) -> Walk
-    requires { ⌜ (n ≤ 10) × (promised ≤ 11) × (promised ≤ length (now picks)) × (1 ≤ promised) × (first .made ≡ 1) × (first .refused ≡ false) ⌝ }
-    ensures { λ r. ⌜ (came r ≡ through (take 1 (first .boards)) (hops n (now (status .entry)) (now (links .entry)) (now (vectors .entry)) (now (picks .entry)) (promised - 1) 1 (first .node .0) (first .nav .0))) × (r .made ≤ promised) ⌝ }
+) -> Course
+    requires { ⌜ (n ≤ 10) × (promised ≤ 11) × (promised ≤ length (now picks)) × (1 ≤ promised)
+        × (first .made ≡ 1) × (first .refused ≡ false) ⌝ }
+    ensures { λ r.
+        let R = report n (now (status .entry)) (now (links .entry)) in
+        let rest = hops R (now (vectors .entry)) (now (picks .entry)) (promised - 1) 1 (first .node .0) (first .nav .0) in
+        ⌜ (came r ≡ through (take 1 (first .boards)) rest) × (r .made ≤ promised) ⌝ }
 {
     let mut w = first;
     let mut j: usize = 1;
@@ -151,11 +158,14 @@ fn depart(
     nav: Nav,
     mask: u16,
     promised: usize,
-) -> Walk
+) -> Course
     requires { ⌜ (n ≤ 10) × (promised ≤ 11) × (promised ≤ length (now picks)) ⌝ }
-    ensures { λ r. ⌜ (came r ≡ leave n (now (status .entry)) (now (links .entry)) (now (vectors .entry)) (now (picks .entry)) (s .0) (nav .0) mask promised) × (r .made ≤ promised) ⌝ }
+    ensures { λ r.
+        let R = report n (now (status .entry)) (now (links .entry)) in
+        let way = leave R (now (vectors .entry)) (now (picks .entry)) (s .0) (nav .0) mask promised in
+        ⌜ (came r ≡ way) × (r .made ≤ promised) ⌝ }
 {
-    let start = Walk::begin(s, nav);
+    let start = Course::begin(s, nav);
     if promised == 0 {
         return start;
     }
@@ -177,10 +187,11 @@ fn write_path(path: &mut [u16], s: Node, boards: [u16; 11], made: usize)
 }
 
 // The answer at the end of a walk: the path is written, or its refusal number is handed out.
-fn finish(w: Walk, kind: Kind, path: &mut [u16], s: Node) -> Trip
+fn finish(w: Course, kind: Kind, path: &mut [u16], s: Node) -> Trip
     requires { ⌜ (w .made ≤ 11) × (w .made < length (now path)) ⌝ }
-    ensures answer { λ r. ⌜ said r ≡ arrival (routeBy (chosen kind) (came w)) ⌝ }
-    ensures memory { λ r. ⌜ now (path .exit) ≡ pathBy (routeBy (chosen kind) (came w)) (s .0) (now (path .entry)) ⌝ }
+    ensures { λ r.
+        let way = routeBy (chosen kind) (came w) in
+        ⌜ (said r ≡ outcome way) × (now (path .exit) ≡ pathBy way (s .0) (now (path .entry))) ⌝ }
 {
     if w.refused {
         return Trip::Refused(w.number);
@@ -203,9 +214,12 @@ fn by_decision(
     s: Node,
     d: Node,
 ) -> Trip
-    requires { ⌜ (n ≤ 10) × (n + 1 ≤ length (now picks)) × (n + 2 ≤ length (now path)) × (deciding.said decision ≡ decide n (now status) (now links) (now vectors) (s .0) (d .0)) ⌝ }
-    ensures answer { λ r. ⌜ said r ≡ arrival (depart (deciding.said decision) (leaving n (now (status .entry)) (now (links .entry)) (now (vectors .entry)) (now (picks .entry)) (s .0) (d .0))) ⌝ }
-    ensures memory { λ r. ⌜ now (path .exit) ≡ pathBy (depart (deciding.said decision) (leaving n (now (status .entry)) (now (links .entry)) (now (vectors .entry)) (now (picks .entry)) (s .0) (d .0))) (s .0) (now (path .entry)) ⌝ }
+    requires { ⌜ (n ≤ 10) × (n + 1 ≤ length (now picks)) × (n + 2 ≤ length (now path))
+        × (deciding.said decision ≡ decide (report n (now status) (now links)) (now vectors) (s .0) (d .0)) ⌝ }
+    ensures { λ r.
+        let R = report n (now (status .entry)) (now (links .entry)) in
+        let way = depart (deciding.said decision) (leaving R (now (vectors .entry)) (now (picks .entry)) (s .0) (d .0)) in
+        ⌜ (said r ≡ outcome way) × (now (path .exit) ≡ pathBy way (s .0) (now (path .entry))) ⌝ }
 {
     let Decision::Accepted(kind) = decision else {
         return Trip::Refused(decision.number());
@@ -238,8 +252,11 @@ fn by_fill(
     d: Node,
 ) -> Trip
     requires { ⌜ (n ≤ 10) × (n + 1 ≤ length (now picks)) × (n + 2 ≤ length (now path)) × (filling.said filled ≡ accepted tt) ⌝ }
-    ensures answer { λ r. ⌜ said r ≡ arrival (depart (decide n (now (status .entry)) (now (links .entry)) (now (vectors .entry)) (s .0) (d .0)) (leaving n (now (status .entry)) (now (links .entry)) (now (vectors .entry)) (now (picks .entry)) (s .0) (d .0))) ⌝ }
-    ensures memory { λ r. ⌜ now (path .exit) ≡ pathBy (depart (decide n (now (status .entry)) (now (links .entry)) (now (vectors .entry)) (s .0) (d .0)) (leaving n (now (status .entry)) (now (links .entry)) (now (vectors .entry)) (now (picks .entry)) (s .0) (d .0))) (s .0) (now (path .entry)) ⌝ }
+    ensures { λ r.
+        let R = report n (now (status .entry)) (now (links .entry)) in
+        let vecs = now (vectors .entry) in
+        let way = depart (decide R vecs (s .0) (d .0)) (leaving R vecs (now (picks .entry)) (s .0) (d .0)) in
+        ⌜ (said r ≡ outcome way) × (now (path .exit) ≡ pathBy way (s .0) (now (path .entry))) ⌝ }
 {
     let Filled::Done = filled else {
         return Trip::Refused(filled.number());
@@ -267,11 +284,14 @@ fn journey_refusal(
     s: Node,
     d: Node,
 ) -> u32
-    ensures { λ r. ⌜ r ≡ journeyRefusal n (now (status .entry)) (now (links .entry)) (now (vectors .entry)) (now (picks .entry)) (now (path .entry)) (s .0) (d .0) ⌝ }
+    ensures { λ r.
+        let R = report n (now (status .entry)) (now (links .entry)) in
+        ⌜ r ≡ journeyRefusal R (now (vectors .entry)) (now (picks .entry)) (now (path .entry)) (s .0) (d .0) ⌝ }
 {
     let by_6 = refused_unless(report::works(status, d), 6, 0);
     let by_5 = refused_unless(report::works(status, s), 5, by_6);
-    let by_4 = refused_unless(report::both_within(n, s.0, d.0), 4, by_5);
+    let nodes = report::has_node(n, s) & report::has_node(n, d);
+    let by_4 = refused_unless(nodes, 4, by_5);
     let by_3 = refused_unless(report::narrow(n, links), 3, by_4);
     let sized = report::all_sized(n, status.len(), links.len(), vectors.len());
     let roomy = roomy(n, picks.len(), path.len());
@@ -290,9 +310,14 @@ pub fn journey(
     s: Node,
     d: Node,
 ) -> Trip
-    ensures answer { λ r. ⌜ said r ≡ arrival (journey n (now (status .entry)) (now (links .entry)) (now (vectors .entry)) (now (picks .entry)) (now (path .entry)) (s .0) (d .0)) ⌝ }
-    ensures filled { λ r. ⌜ now (vectors .exit) ≡ vectorsAfter n (now (status .entry)) (now (links .entry)) (now (vectors .entry)) (now (picks .entry)) (now (path .entry)) (s .0) (d .0) ⌝ }
-    ensures walked { λ r. ⌜ now (path .exit) ≡ pathAfter n (now (status .entry)) (now (links .entry)) (now (vectors .entry)) (now (picks .entry)) (now (path .entry)) (s .0) (d .0) ⌝ }
+    ensures { λ r.
+        let R = report n (now (status .entry)) (now (links .entry)) in
+        let vecs = now (vectors .entry) in
+        let picked = now (picks .entry) in
+        let road = now (path .entry) in
+        ⌜ (said r ≡ outcome (journey R vecs picked road (s .0) (d .0)))
+        × (now (vectors .exit) ≡ vectorsAfter R vecs picked road (s .0) (d .0))
+        × (now (path .exit) ≡ pathAfter R vecs picked road (s .0) (d .0)) ⌝ }
 {
     let number = journey_refusal(n, status, links, vectors, picks, path, s, d);
     if number != 0 {

@@ -8,19 +8,19 @@ use native.Mathlib.Omega.{arith}
 use borrow.Author.Tests.{le-leb, lt-leb, lt-ltb, le-ltb}
 use lib.ListN.{length, getD, drop, drop-of-length-le}
 use lib.Seq.{drop-cons}
-use Rattle.log.specs.Sweep.{digits, decimal, sweepIn}
+use Rattle.log.specs.Sweep.{digits, value, sweepIn}
 use Rattle.log.specs.declared.Sweep.the-variants.{Number, NoNumber}
 
 -- what digits write is no less than what those before them wrote
-decimal-le : (x : ℕ) (bs : List ℕ) → x ≤ decimal x bs
-unfolding decimal
-decimal-le x [] = omega arith
-decimal-le x (b ∷ bs) = omega (arith, decimal-le (10 * x + (b - 48)) bs)
+value-le : (x : ℕ) (bs : List ℕ) → x ≤ value x bs
+unfolding value
+value-le x [] = omega arith
+value-le x (b ∷ bs) = omega (arith, value-le (10 * x + (b - 48)) bs)
 
 -- the byte at i
 module _ (text : List ℕ) (i : ℕ) (inside : i < length text) where
-  decimal-next : (x y : ℕ) → y ≡ 10 * x + (getD text i 0 - 48) → decimal y (drop (i + 1) text) ≡ decimal x (drop i text)
-  unfolding decimal
+  decimal-next : (x y : ℕ) → y ≡ 10 * x + (getD text i 0 - 48) → value y (drop (i + 1) text) ≡ value x (drop i text)
+  unfolding value
   decimal-next x y e = rw (e, add-one, drop-cons text i 0 inside)
 
   digits-next : 48 ≤ getD text i 0 → getD text i 0 ≤ 57 → digits (drop (i + 1) text) ≡ digits (drop i text)
@@ -44,15 +44,15 @@ none-by-digits : (text : List ℕ) → digits text ≡ false → NoNumber ≡ sw
 unfolding sweepIn
 none-by-digits text e = rw (e, and-false)
 
-none-by-size : (text : List ℕ) → 65535 < decimal 0 text → NoNumber ≡ sweepIn text
+none-by-size : (text : List ℕ) → 65535 < value 0 text → NoNumber ≡ sweepIn text
 unfolding sweepIn
-none-by-size text h = rw (lt-leb (decimal 0 text) 65535 h, and-false, and-false)
+none-by-size text h = rw (lt-leb (value 0 text) 65535 h, and-false, and-false)
 
 -- the bytes before i are digits that write x
 pub record Read (text : List ℕ) (i x : ℕ) : Type 0 where
   pub inside : i ≤ length text
   pub small : x ≤ 65535
-  pub number : decimal x (drop i text) ≡ decimal 0 text
+  pub number : value x (drop i text) ≡ value 0 text
   pub all : digits (drop i text) ≡ digits text
 
 pub read-none : (text : List ℕ) → Read text 0 0
@@ -67,7 +67,7 @@ module _ (text : List ℕ) (i x : ℕ) (read : Read text i x) (inside : i < leng
 
   pub large-none : (y : ℕ) → y ≡ 10 * x + (getD text i 0 - 48) → 65535 < y → NoNumber ≡ sweepIn text
   large-none y e h =
-      none-by-size text (omega (arith, decimal-le y (drop (i + 1) text), decimal-next text i inside x y e ∙ read .number))
+      none-by-size text (omega (arith, value-le y (drop (i + 1) text), decimal-next text i inside x y e ∙ read .number))
 
   pub read-next : (y : ℕ) → y ≡ 10 * x + (getD text i 0 - 48) → y ≤ 65535 → 48 ≤ getD text i 0 → getD text i 0 ≤ 57 → Read text (i + 1) y
   read-next y e small low high =
@@ -83,9 +83,9 @@ module _ (text : List ℕ) (i x : ℕ) (read : Read text i x) (end : length text
   rest : drop i text ≡ []
   rest = drop-of-length-le text end
 
-  written : decimal 0 text ≡ x
-  unfolding decimal
-  written = sym (read .number) ∙ ap (decimal x) rest
+  written : value 0 text ≡ x
+  unfolding value
+  written = sym (read .number) ∙ ap (value x) rest
 
   only-digits : digits text ≡ true
   unfolding digits

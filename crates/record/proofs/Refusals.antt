@@ -13,7 +13,7 @@ use Rattle.cube.proofs.Reply.{passed, later, refusal-le}
 use Rattle.cube.proofs.Order.{lt-or-ge, eq-or-ne}
 use Rattle.report.specs.Report.{dimension, narrow}
 use Rattle.report.proofs.Report.{dimension-range}
-use Rattle.record.specs.Open.{lengthIn, kindIn, nIn, statusIn, linksIn, openRefusal, opened, statusAfter, linksAfter}
+use Rattle.record.specs.Open.{lengthIn, kindIn, nIn, statusIn, linksIn, openRefusal, opened, statusOpened, linksOpened}
 
 -- both lent slices have 2^n places
 abbrev room : List ℕ → List ℕ → List ℕ → Bool
@@ -107,15 +107,15 @@ module _ (bytes status links : List ℕ) where
       (m : ℕ) →
       m ≡ openRefusal bytes status links →
       (m ≡ 0 → ⊥) →
-      (refused m ≡ opened bytes status links) × ((status ≡ statusAfter bytes status links) × (links ≡ linksAfter bytes status links))
-  unfolding opened unless statusAfter linksAfter kept
+      (refused m ≡ opened bytes status links) × ((status ≡ statusOpened bytes status links) × (links ≡ linksOpened bytes status links))
+  unfolding opened unless statusOpened linksOpened kept
   after-refusal zero e some = absurd (some refl)
   after-refusal (suc m) e some = rw (← e) (refl, (refl, refl))
 
   pub after-reading :
       openRefusal bytes status links ≡ 0 →
       (accepted (nIn bytes) ≡ opened bytes status links)
-      × ((statusIn bytes ++ drop (2 ^ nIn bytes) status ≡ statusAfter bytes status links)
-      × (linksIn bytes ++ drop (2 ^ nIn bytes) links ≡ linksAfter bytes status links))
-  unfolding opened unless statusAfter linksAfter kept
+      × ((statusIn bytes ++ drop (2 ^ nIn bytes) status ≡ statusOpened bytes status links)
+      × (linksIn bytes ++ drop (2 ^ nIn bytes) links ≡ linksOpened bytes status links))
+  unfolding opened unless statusOpened linksOpened kept
   after-reading e = rw e (refl, (refl, refl))

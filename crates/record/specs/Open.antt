@@ -55,13 +55,13 @@ unfolding openRefusal unless
 opened bytes status links = unless (openRefusal bytes status links) (accepted (nIn bytes))
 
 -- the lent slices afterwards: what was read in their first places, later places unchanged
-unfoldable pub statusAfter : List ℕ → List ℕ → List ℕ → List ℕ
+unfoldable pub statusOpened : List ℕ → List ℕ → List ℕ → List ℕ
 unfolding openRefusal kept statusIn
-statusAfter bytes status links = kept (openRefusal bytes status links) (statusIn bytes ++ drop (2 ^ nIn bytes) status) status
+statusOpened bytes status links = kept (openRefusal bytes status links) (statusIn bytes ++ drop (2 ^ nIn bytes) status) status
 
-unfoldable pub linksAfter : List ℕ → List ℕ → List ℕ → List ℕ
+unfoldable pub linksOpened : List ℕ → List ℕ → List ℕ → List ℕ
 unfolding openRefusal kept linksIn
-linksAfter bytes status links = kept (openRefusal bytes status links) (linksIn bytes ++ drop (2 ^ nIn bytes) links) links
+linksOpened bytes status links = kept (openRefusal bytes status links) (linksIn bytes ++ drop (2 ^ nIn bytes) links) links
 
 -- what each case of the answer says
 abbrev pub said : Opened → Reply ℕ

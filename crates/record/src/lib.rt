@@ -6,7 +6,7 @@ ghost use Prim.Native.Nat.{_+_, _*_, _%_, _^_, _<_, _≤_};
 ghost use lib.ListN.{length, getD, drop};
 ghost use Rattle.cube.specs.Reply.{OneAnswer};
 ghost use Rattle.report.specs.Report.{narrow};
-ghost use Rattle.record.specs.Open.{word, nIn, statusIn, linksIn, openRefusal, opened, statusAfter, linksAfter, said};
+ghost use Rattle.record.specs.Open.{word, nIn, statusIn, linksIn, openRefusal, opened, statusOpened, linksOpened, said};
 ghost use Rattle.record.specs.Restate.{restated, ReadsBack};
 
 // What Open answers.
@@ -133,8 +133,8 @@ fn write_links(bytes: &[u8], nodes: usize, links: &mut [u16])
 // Reads a record: gives its n back, and writes its status bytes and link words into the first 2^n places of the lent slices.
 pub fn open(bytes: &[u8], status: &mut [u8], links: &mut [u16]) -> Opened
     ensures { λ r. ⌜ said r ≡ opened (now (bytes .entry)) (now (status .entry)) (now (links .entry)) ⌝ }
-    ensures { λ _. ⌜ now (status .exit) ≡ statusAfter (now (bytes .entry)) (now (status .entry)) (now (links .entry)) ⌝ }
-    ensures { λ _. ⌜ now (links .exit) ≡ linksAfter (now (bytes .entry)) (now (status .entry)) (now (links .entry)) ⌝ }
+    ensures { λ _. ⌜ now (status .exit) ≡ statusOpened (now (bytes .entry)) (now (status .entry)) (now (links .entry)) ⌝ }
+    ensures { λ _. ⌜ now (links .exit) ≡ linksOpened (now (bytes .entry)) (now (status .entry)) (now (links .entry)) ⌝ }
 {
     let number = refusal(bytes, status, links);
     if number != 0 {
@@ -147,7 +147,7 @@ pub fn open(bytes: &[u8], status: &mut [u8], links: &mut [u16]) -> Opened
     Opened::Cube(n)
 }
 
-// For every input the contract of `open` allows one answer; the lent slices are given by `statusAfter` and `linksAfter`.
+// For every input the contract of `open` allows one answer; the lent slices are given by `statusOpened` and `linksOpened`.
 pub fn one_answer()
     ensures { λ r. ⌜ OneAnswer said ⌝ }
 {}

@@ -10,31 +10,31 @@ use lib.Pow.{pow-mono}
 use lib.Seq.{take-at, sets-eq, length-take-le}
 use Rattle.io.specs.Counts.{Counts}
 use Rattle.cube.specs.Reply.{Reply, refused, accepted}
-use Rattle.report.specs.Report.{cube}
+use Rattle.report.specs.Report.{report, cube}
 use Rattle.safety.specs.Safety.{bitsOf}
-use Rattle.record.specs.Open.{nIn, statusIn, linksIn, openRefusal, opened, statusAfter, linksAfter}
+use Rattle.record.specs.Open.{nIn, statusIn, linksIn, openRefusal, opened, statusOpened, linksOpened}
 use Rattle.record.proofs.Fields.{count-status, count-links}
 use Rattle.record.proofs.Refusals.{Readable, readable, after-reading, after-refusal, open-refusal-le}
 use Rattle.text.specs.Text.{spell, joined}
-use Rattle.text.specs.Listing.{titled, line, cubeText, told, places}
-use Rattle.text.specs.Put.{Put, Fit, toldOf}
+use Rattle.text.specs.Listing.{titled, line, cubeText, listed, places}
+use Rattle.text.specs.Put.{Put, Fit, listedOf}
 use Rattle.text.proofs.Placing.{put-length}
 use Rattle.text.proofs.Text.{length-decimal, length-joined}
 use Rattle.text.proofs.Lines.{length-header, length-line}
 
--- what is known of an answer and of the slices after it: they are fit to be told, and what is told is the text of the record
+-- what is known of an answer and of the slices after it: they are fit to be listed, and what is listed is the text of the record
 pub record Answered (bytes : List ℕ) (reply : Reply ℕ) (status links : List ℕ) : Type 0 where
   pub fit : Fit reply status links
-  pub tells : toldOf reply status links ≡ told (opened bytes places places) (statusIn bytes) (linksIn bytes)
+  pub tells : listedOf reply status links ≡ listed (opened bytes places places) (statusIn bytes) (linksIn bytes)
 
 module _ (bytes : List ℕ) where
   -- a refusal
   after-none : (m : ℕ) → suc m ≡ openRefusal bytes places places → Answered bytes (refused (suc m)) places places
-  unfolding told
+  unfolding listed
   after-none m e =
       record {
         fit = omega (arith, open-refusal-le bytes places places);
-        tells = ap (λ (r : Reply ℕ). told r (statusIn bytes) (linksIn bytes)) (after-refusal bytes places places (suc m) e (λ z. omega arith) .0);
+        tells = ap (λ (r : Reply ℕ). listed r (statusIn bytes) (linksIn bytes)) (after-refusal bytes places places (suc m) e (λ z. omega arith) .0);
       }
 
   -- an accepted record
@@ -61,11 +61,11 @@ module _ (bytes : List ℕ) where
             linksRoom = omega (arith, length-append (linksIn bytes) (drop nodes places), count-links bytes);
             narrowLinks = rw links-first (it .narrowLinks);
           };
-          tells = rw (status-first, links-first) (ap (λ (r : Reply ℕ). told r (statusIn bytes) (linksIn bytes)) (after-reading bytes places places none .0));
+          tells = rw (status-first, links-first) (ap (λ (r : Reply ℕ). listed r (statusIn bytes) (linksIn bytes)) (after-reading bytes places places none .0));
         }
 
-  pub answered : (reply : Reply ℕ) (status links : List ℕ) → reply ≡ opened bytes places places → status ≡ statusAfter bytes places places
-      → links ≡ linksAfter bytes places places → Answered bytes reply status links
+  pub answered : (reply : Reply ℕ) (status links : List ℕ) → reply ≡ opened bytes places places → status ≡ statusOpened bytes places places
+      → links ≡ linksOpened bytes places places → Answered bytes reply status links
   answered reply status links er es el = go (openRefusal bytes places places) refl
     where
       go : (m : ℕ) → openRefusal bytes places places ≡ m → Answered bytes reply status links
@@ -92,10 +92,10 @@ length-cube n status bits h =
       pow-mono {i = n} {j = 10} h,
     )
 
-pub length-told : (reply : Reply ℕ) (status links : List ℕ) → Fit reply status links → length (toldOf reply status links) ≤ 24584
-unfolding told
-length-told (refused m) status links fit = length-refused m
-length-told (accepted n) status links fit = length-cube n (take (2 ^ n) status) (bitsOf (cube n (take (2 ^ n) status) (take (2 ^ n) links))) (fit .high)
+pub length-listed : (reply : Reply ℕ) (status links : List ℕ) → Fit reply status links → length (listedOf reply status links) ≤ 24584
+unfolding listed
+length-listed (refused m) status links fit = length-refused m
+length-listed (accepted n) status links fit = length-cube n (take (2 ^ n) status) (bitsOf (cube (report n (take (2 ^ n) status) (take (2 ^ n) links)))) (fit .high)
 
 -- a text put at the start of a buffer
 pub put-whole : (t old new : List ℕ) (r : ℕ) → Put t 0 old new r → length t ≤ length old → Counts r new × ((r ≡ length t) × (new ≡ t ++ drop r old))

@@ -10,15 +10,15 @@ use lib.Seq.{length-take-le}
 use Rattle.cube.specs.Reply.{accepted, refusal}
 use Rattle.cube.proofs.Reply.{passed, kept-none}
 use Rattle.report.specs.Class.{classOf}
-use Rattle.report.specs.Report.{cube, dimension, sized}
+use Rattle.report.specs.Report.{report, cube, dimension, sized, allSized}
 use Rattle.report.specs.declared.Class.{Class}
 use Rattle.report.specs.declared.Class.the-variants.{Silent, Working, Late, Down, Empty}
 use Rattle.safety.specs.Safety.{bitsOf, vectors}
 use Rattle.vectors.specs.Fill.{fillRefusal, filled}
 use Rattle.held.proofs.Held.{own-safe}
 use Rattle.text.specs.Text.{spell, decimal, joined}
-use Rattle.text.specs.Put.{held, Report}
-use Rattle.text.specs.Listing.{titled, named, line, cubeText, told}
+use Rattle.text.specs.Put.{heldBits, Placed}
+use Rattle.text.specs.Listing.{titled, named, line, cubeText, listed}
 use Rattle.text.proofs.Text.{length-decimal, length-small, length-row, row-cong, joined-cong}
 
 pub length-named : (k : Class) → length (named k) ≤ 7
@@ -41,8 +41,8 @@ unfolding titled
 length-header n h = simp length-append (omega (arith, length-small n (omega arith)))
 
 -- a report that Fill accepts has one status byte for each node
-pub accepted-status : (n : ℕ) (status links out : List ℕ) → fillRefusal n status links out ≡ 0 → length status ≡ 2 ^ n
-unfolding fillRefusal
+pub accepted-status : (n : ℕ) (status links out : List ℕ) → fillRefusal (report n status links) out ≡ 0 → length status ≡ 2 ^ n
+unfolding fillRefusal allSized
 accepted-status n status links out e =
     let t1 = passed (not (dimension n)) 0 _ e in
     let t2 = passed (not (sized n status && (sized n links && sized n out))) 1 _ (t1 .1) in
@@ -50,26 +50,26 @@ accepted-status n status links out e =
 
 -- over Fill's vectors the boards hold the bits of Definition 1
 filled-line : (n : ℕ) (status links : List ℕ) (a : ℕ) → a < 2 ^ n
-    → line n status (held (vectors (cube n status links))) a ≡ line n status (bitsOf (cube n status links)) a
-unfolding line held bitsOf cube
+    → line n status (heldBits (vectors (cube (report n status links)))) a ≡ line n status (bitsOf (cube (report n status links))) a
+unfolding line heldBits bitsOf cube
 filled-line n status links a h =
     ap (λ (r : List ℕ). decimal a ++ (spell " " ++ (named (classOf (getD status a 0)) ++ (spell " " ++ (r ++ spell "\n")))))
-    (row-cong (held (vectors (cube n status links)) a) (bitsOf (cube n status links) a) n (λ k l. own-safe (cube n status links) (suc k) a (omega arith) h))
+    (row-cong (heldBits (vectors (cube (report n status links))) a) (bitsOf (cube (report n status links)) a) n (λ k l. own-safe (cube (report n status links)) (suc k) a (omega arith) h))
 
 -- the header and the lines over what Fill leaves are the text of the cube
-pub cube-told : (n : ℕ) (status links out vs : List ℕ) → fillRefusal n status links out ≡ 0 → vs ≡ filled n status links out
-    → titled (spell "cube") n ++ joined (line n status (held vs)) (length status) ≡ told (accepted n) status links
-unfolding told cubeText filled
-cube-told n status links out vs none e =
-    let full : vs ≡ vectors (cube n status links) = e ∙ kept-none (fillRefusal n status links out) _ _ none in
+pub cube-listed : (n : ℕ) (status links out vs : List ℕ) → fillRefusal (report n status links) out ≡ 0 → vs ≡ filled (report n status links) out
+    → titled (spell "cube") n ++ joined (line n status (heldBits vs)) (length status) ≡ listed (accepted n) status links
+unfolding listed cubeText filled
+cube-listed n status links out vs none e =
+    let full : vs ≡ vectors (cube (report n status links)) = e ∙ kept-none (fillRefusal (report n status links) out) _ _ none in
     rw (full, accepted-status n status links out none)
     (ap (λ (t : List ℕ). titled (spell "cube") n ++ t)
-    (joined-cong (line n status (held (vectors (cube n status links)))) (line n status (bitsOf (cube n status links))) (2 ^ n) (filled-line n status links)))
+    (joined-cong (line n status (heldBits (vectors (cube (report n status links))))) (line n status (bitsOf (cube (report n status links)))) (2 ^ n) (filled-line n status links)))
 
 -- an accepted report at the start of longer slices is one that Fill accepts
-pub report-fills : (n : ℕ) (status links vs : List ℕ) → Report n status links → 2 ^ n ≤ length vs
-    → fillRefusal n (take (2 ^ n) status) (take (2 ^ n) links) (take (2 ^ n) vs) ≡ 0
-unfolding fillRefusal refusal dimension sized
+pub report-fills : (n : ℕ) (status links vs : List ℕ) → Placed n status links → 2 ^ n ≤ length vs
+    → fillRefusal (report n (take (2 ^ n) status) (take (2 ^ n) links)) (take (2 ^ n) vs) ≡ 0
+unfolding fillRefusal refusal dimension sized allSized
 report-fills n status links vs r h =
     rw (
       le-leb 1 n (r .low),

@@ -6,7 +6,7 @@ use lib.Dec.{ltb}
 use lib.ListN.{length, getD, replicate}
 use Rattle.cube.specs.Reply.{Reply, refused, accepted}
 use Rattle.report.specs.Class.{classOf}
-use Rattle.report.specs.Report.{cube}
+use Rattle.report.specs.Report.{report, cube}
 use Rattle.report.specs.declared.Class.{Class}
 use Rattle.report.specs.declared.Class.the-variants.{Silent, Working, Late, Down, Empty}
 use Rattle.safety.specs.Safety.{bitsOf}
@@ -38,10 +38,10 @@ unfolding titled joined line
 cubeText n status bits = titled (spell "cube") n ++ joined (line n status bits) (2 ^ n)
 
 -- of an accepted record its cube with the bits of Definition 1, else the refusal
-unfoldable pub told : Reply ℕ → List ℕ → List ℕ → List ℕ
+unfoldable pub listed : Reply ℕ → List ℕ → List ℕ → List ℕ
 unfolding cubeText titled bitsOf cube
-told (accepted n) status links = cubeText n status (bitsOf (cube n status links))
-told (refused m) status links = titled (spell "refused") m
+listed (accepted n) status links = cubeText n status (bitsOf (cube (report n status links)))
+listed (refused m) status links = titled (spell "refused") m
 
 -- as many places as the largest cube has nodes
 abbrev pub places : List ℕ
@@ -49,6 +49,6 @@ places = replicate 1024 0
 
 -- the text for all bytes of standard input: over 4,096 of them are refused by 10, else they are the record
 unfoldable pub listing : List ℕ → List ℕ
-unfolding told opened statusIn linksIn
+unfolding listed opened statusIn linksIn
 listing bytes =
-    told (cond (ltb 4096 (length bytes)) (refused 10) (opened bytes places places)) (statusIn bytes) (linksIn bytes)
+    listed (cond (ltb 4096 (length bytes)) (refused 10) (opened bytes places places)) (statusIn bytes) (linksIn bytes)

@@ -8,7 +8,7 @@ use lib.Seq.{sets}
 use Rattle.cube.specs.Reply.{Reply, refused, accepted}
 use Rattle.report.specs.Report.{narrow}
 use Rattle.held.specs.Held.{own}
-use Rattle.text.specs.Listing.{told}
+use Rattle.text.specs.Listing.{listed}
 
 -- the text stands from place at on, all other places are as before, and next is the place after it
 pub record Put (text : List ℕ) (at : ℕ) (old new : List ℕ) (next : ℕ) : Type 0 where
@@ -16,12 +16,12 @@ pub record Put (text : List ℕ) (at : ℕ) (old new : List ℕ) (next : ℕ) : 
   pub stands : new ≡ sets old at text
 
 -- own bit k of node a as the boards hold it, the node first
-unfoldable pub held : List ℕ → ℕ → ℕ → Bool
+unfoldable pub heldBits : List ℕ → ℕ → ℕ → Bool
 unfolding own
-held vectors a k = own vectors k a
+heldBits vectors a k = own vectors k a
 
 -- an accepted report of dimension n at the start of two slices
-pub record Report (n : ℕ) (status links : List ℕ) : Type 0 where
+pub record Placed (n : ℕ) (status links : List ℕ) : Type 0 where
   pub low : 1 ≤ n
   pub high : n ≤ 10
   pub statusRoom : 2 ^ n ≤ length status
@@ -30,10 +30,10 @@ pub record Report (n : ℕ) (status links : List ℕ) : Type 0 where
 
 -- what Open answers: an accepted report, or a refusal's number
 abbrev pub Fit : Reply ℕ → List ℕ → List ℕ → Type 0
-Fit (accepted n) status links = Report n status links
+Fit (accepted n) status links = Placed n status links
 Fit (refused m) status links = m < 10000
 
 -- the text of an answer, with the report at the start of the slices
-abbrev pub toldOf : Reply ℕ → List ℕ → List ℕ → List ℕ
-toldOf (accepted n) status links = told (accepted n) (take (2 ^ n) status) (take (2 ^ n) links)
-toldOf (refused m) status links = told (refused m) status links
+abbrev pub listedOf : Reply ℕ → List ℕ → List ℕ → List ℕ
+listedOf (accepted n) status links = listed (accepted n) (take (2 ^ n) status) (take (2 ^ n) links)
+listedOf (refused m) status links = listed (refused m) status links

@@ -7,12 +7,13 @@ ghost use mathlib.Core.List.{_++_};
 ghost use Prim.Native.Nat.{_+_, _*_, _≤_, _<_};
 ghost use lib.ListN.{length, drop};
 ghost use Rattle.cube.specs.Reply.{accepted};
+ghost use Rattle.report.specs.Report.{report};
 ghost use Rattle.vectors.specs.Fill.{fillRefusal};
 ghost use Rattle.record.specs.Open.{said};
 ghost use Rattle.io.specs.Counts.{Counts};
 ghost use Rattle.text.specs.Text.{decimal, row, joined};
 ghost use Rattle.text.specs.Listing as spec;
-ghost use Rattle.text.specs.Put.{Put, held, Fit, toldOf};
+ghost use Rattle.text.specs.Put.{Put, heldBits, Fit, listedOf};
 
 // The bytes of the longest listing: the header and 1,024 lines.
 pub const LONGEST: usize = 24584;
@@ -64,7 +65,7 @@ fn put_class(out: &mut [u8], at: usize, class: Class) -> usize
 // Puts the own bits 1 to n of a node as one row of digits.
 fn put_bits(out: &mut [u8], at: usize, n: u32, vectors: &[u16], a: Node) -> usize
     requires { ⌜ (n ≤ 10) × (at + n ≤ length (now out)) ⌝ }
-    ensures { λ r. ⌜ Put (row (held (now (vectors .entry)) (a .0)) n) at (now (out .entry)) (now (out .exit)) r ⌝ }
+    ensures { λ r. ⌜ Put (row (heldBits (now (vectors .entry)) (a .0)) n) at (now (out .entry)) (now (out .exit)) r ⌝ }
 {
     let mut k: u32 = 0;
     while k < n {
@@ -88,7 +89,7 @@ fn put_titled(out: &mut [u8], word: &[u8], number: u64) -> usize
 // Puts the line of a node: its number, its class by its status byte, and its bits.
 fn put_line(out: &mut [u8], at: usize, n: u32, status: &[u8], vectors: &[u16], a: usize) -> usize
     requires { ⌜ (n ≤ 10) × (a < 1024) × (a < length (now status)) × (at + 24 ≤ length (now out)) ⌝ }
-    ensures { λ r. ⌜ Put (spec.line n (now (status .entry)) (held (now (vectors .entry))) a) at (now (out .entry)) (now (out .exit)) r ⌝ }
+    ensures { λ r. ⌜ Put (spec.line n (now (status .entry)) (heldBits (now (vectors .entry))) a) at (now (out .entry)) (now (out .exit)) r ⌝ }
 {
     let class = report::class_of(status[a]);
     let numbered = put_number(out, at, a as u64);
@@ -102,7 +103,10 @@ fn put_line(out: &mut [u8], at: usize, n: u32, status: &[u8], vectors: &[u16], a
 // Puts the lines of all nodes, one for each status byte.
 fn put_lines(out: &mut [u8], at: usize, n: u32, status: &[u8], vectors: &[u16]) -> usize
     requires { ⌜ (n ≤ 10) × (length (now status) ≤ 1024) × (at + 24 * length (now status) ≤ length (now out)) ⌝ }
-    ensures { λ r. ⌜ Put (joined (spec.line n (now (status .entry)) (held (now (vectors .entry)))) (length (now (status .entry)))) at (now (out .entry)) (now (out .exit)) r ⌝ }
+    ensures { λ r.
+        let status = now (status .entry) in
+        let lines = joined (spec.line n status (heldBits (now (vectors .entry)))) (length status) in
+        ⌜ Put lines at (now (out .entry)) (now (out .exit)) r ⌝ }
 {
     let mut end = at;
     let mut a: usize = 0;
@@ -115,8 +119,8 @@ fn put_lines(out: &mut [u8], at: usize, n: u32, status: &[u8], vectors: &[u16]) 
 
 // Puts the listing of a report that Open accepted, so that Fill accepts it too.
 fn put_cube(out: &mut [u8], n: u32, status: &[u8], links: &[u16], vectors: &mut [u16]) -> usize
-    requires { ⌜ (n ≤ 10) × (fillRefusal n (now status) (now links) (now vectors) ≡ 0) × (24584 ≤ length (now out)) ⌝ }
-    ensures { λ r. ⌜ Put (spec.told (accepted n) (now (status .entry)) (now (links .entry))) 0 (now (out .entry)) (now (out .exit)) r ⌝ }
+    requires { ⌜ (n ≤ 10) × (fillRefusal (report n (now status) (now links)) (now vectors) ≡ 0) × (24584 ≤ length (now out)) ⌝ }
+    ensures { λ r. ⌜ Put (spec.listed (accepted n) (now (status .entry)) (now (links .entry))) 0 (now (out .entry)) (now (out .exit)) r ⌝ }
 {
     vectors::fill(n, status, links, vectors);
     let titled = put_titled(out, b"cube", n as u64);
@@ -133,7 +137,7 @@ fn room() -> [u16; 1024]
 // Puts the listing of an accepted report of dimension n, which stands at the start of the slices.
 fn put_report(out: &mut [u8], n: u32, status: &[u8], links: &[u16]) -> usize
     requires { ⌜ (Fit (accepted n) (now status) (now links)) × (24584 ≤ length (now out)) ⌝ }
-    ensures { λ r. ⌜ Put (toldOf (accepted n) (now (status .entry)) (now (links .entry))) 0 (now (out .entry)) (now (out .exit)) r ⌝ }
+    ensures { λ r. ⌜ Put (listedOf (accepted n) (now (status .entry)) (now (links .entry))) 0 (now (out .entry)) (now (out .exit)) r ⌝ }
 {
     let nodes: usize = 1 << n;
     let mut vectors = room();
@@ -149,7 +153,7 @@ fn put_report(out: &mut [u8], n: u32, status: &[u8], links: &[u16]) -> usize
 // Puts the listing of what Open answered, the report standing at the start of the slices.
 fn put_opened(out: &mut [u8], opened: Opened, status: &[u8], links: &[u16]) -> usize
     requires { ⌜ (Fit (said opened) (now status) (now links)) × (24584 ≤ length (now out)) ⌝ }
-    ensures { λ r. ⌜ Put (toldOf (said opened) (now (status .entry)) (now (links .entry))) 0 (now (out .entry)) (now (out .exit)) r ⌝ }
+    ensures { λ r. ⌜ Put (listedOf (said opened) (now (status .entry)) (now (links .entry))) 0 (now (out .entry)) (now (out .exit)) r ⌝ }
 {
     match opened {
         Opened::Cube(n) => put_report(out, n, status, links),

@@ -1,7 +1,7 @@
 -- `deruvain::deruvain_class` meets its contract.
 use mathlib.Core.Path.{ap, _∙_}
 use borrow.Author.Needs.{needs}
-use Rattle.deruvain.specs.Door.{classNumber}
+use Rattle.deruvain.specs.Numbers.{classNumber}
 use Rattle.deruvain.proofs.deruvain_class.Statement.{statement}
 use Rattle.deruvain.proofs.deruvain_class.Tie as tie
 

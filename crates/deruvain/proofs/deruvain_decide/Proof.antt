@@ -1,7 +1,7 @@
 -- `deruvain::deruvain_decide` meets its contract.
 use mathlib.Core.Path.{subst}
 use borrow.Author.Needs.{needs}
-use Rattle.deruvain.specs.Door.{Decided}
+use Rattle.deruvain.specs.Numbers.{Decided}
 use Rattle.deruvain.proofs.deruvain_decide.Statement.{statement}
 use Rattle.deruvain.proofs.deruvain_decide.Tie as tie
 

@@ -1,7 +1,7 @@
 -- `deruvain::deruvain_hop` meets its contract.
 use mathlib.Core.Path.{subst}
 use borrow.Author.Needs.{needs}
-use Rattle.deruvain.specs.Door.{Hopped}
+use Rattle.deruvain.specs.Numbers.{Hopped}
 use Rattle.deruvain.proofs.deruvain_hop.Statement.{statement}
 use Rattle.deruvain.proofs.deruvain_hop.Tie as tie
 

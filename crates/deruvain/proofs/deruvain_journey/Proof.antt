@@ -1,7 +1,7 @@
 -- `deruvain::deruvain_journey` meets its contract.
 use mathlib.Core.Path.{subst}
 use borrow.Author.Needs.{needs}
-use Rattle.deruvain.specs.Door.{Travelled}
+use Rattle.deruvain.specs.Numbers.{Travelled}
 use Rattle.deruvain.proofs.deruvain_journey.Statement.{statement}
 use Rattle.deruvain.proofs.deruvain_journey.Tie as tie
 
@@ -20,7 +20,7 @@ same-length-2 c = search needs
 returns : tie.Need-returns
 returns c =
     let e = c .before .before .before .before .before .journey .ensures in
-    (subst (Travelled (c .of-trip .result)) (e .0) (c .of-trip .ensures), e .1)
+    (subst (Travelled (c .of-trip .result)) (e .0) (c .of-trip .ensures), e .1, e .2)
 
 pub deruvain-journey-spec : {M : Type 1} → statement M
 deruvain-journey-spec =

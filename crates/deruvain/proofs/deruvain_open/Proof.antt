@@ -1,7 +1,7 @@
 -- `deruvain::deruvain_open` meets its contract.
 use mathlib.Core.Path.{subst}
 use borrow.Author.Needs.{needs}
-use Rattle.deruvain.specs.Door.{Read}
+use Rattle.deruvain.specs.Numbers.{Read}
 use Rattle.deruvain.proofs.deruvain_open.Statement.{statement}
 use Rattle.deruvain.proofs.deruvain_open.Tie as tie
 

@@ -1,7 +1,7 @@
 -- `deruvain::deruvain_refresh` meets its contract.
 use mathlib.Core.Path.{subst}
 use borrow.Author.Needs.{needs}
-use Rattle.deruvain.specs.Door.{Skipped}
+use Rattle.deruvain.specs.Numbers.{Skipped}
 use Rattle.deruvain.proofs.deruvain_refresh.Statement.{statement}
 use Rattle.deruvain.proofs.deruvain_refresh.Tie as tie
 

@@ -3,7 +3,7 @@ use mathlib.Core.Path.{sym, subst, _∙_}
 use borrow.Author.Needs.{needs}
 use Rattle.routing.specs.declared.Decision.{Decision}
 use Rattle.routing.specs.Decide.{said}
-use Rattle.deruvain.specs.Door.{Decided}
+use Rattle.deruvain.specs.Numbers.{Decided}
 use Rattle.deruvain.proofs.of_decision.Statement.{statement}
 use Rattle.deruvain.proofs.of_decision.Tie as tie
 

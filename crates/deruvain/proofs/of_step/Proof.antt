@@ -3,7 +3,7 @@ use mathlib.Core.Path.{refl, sym, subst}
 use borrow.Author.Needs.{needs}
 use Rattle.routing.specs.declared.Step.{Step}
 use Rattle.routing.specs.Hop.{said}
-use Rattle.deruvain.specs.Door.{Hopped}
+use Rattle.deruvain.specs.Numbers.{Hopped}
 use Rattle.deruvain.proofs.of_step.Statement.{statement}
 use Rattle.deruvain.proofs.of_step.Tie as tie
 

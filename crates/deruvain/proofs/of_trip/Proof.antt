@@ -3,7 +3,7 @@ use mathlib.Core.Path.{sym, subst}
 use borrow.Author.Needs.{needs}
 use Rattle.journey.specs.declared.Trip.{Trip}
 use Rattle.journey.specs.Journey.{said}
-use Rattle.deruvain.specs.Door.{Travelled}
+use Rattle.deruvain.specs.Numbers.{Travelled}
 use Rattle.deruvain.proofs.of_trip.Statement.{statement}
 use Rattle.deruvain.proofs.of_trip.Tie as tie
 

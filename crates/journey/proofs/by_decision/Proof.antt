@@ -7,7 +7,8 @@ use Rattle.cube.specs.Reply.{Reply}
 use Rattle.routing.specs.declared.Decision.{Decision}
 use Rattle.routing.specs.Decide.{said}
 use Rattle.rules.proofs.Decided.{decide-hops}
-use Rattle.journey.specs.Journey.{leave, leaving, Route, routeBy, arrival, depart, pathBy}
+use Rattle.report.specs.Report.{report}
+use Rattle.journey.specs.Journey.{leave, leaving, Route, routeBy, outcome, depart, pathBy}
 use Rattle.journey.proofs.by_decision.Statement.{statement}
 use Rattle.journey.proofs.by_decision.Tie as tie
 
@@ -21,7 +22,7 @@ number-requires : tie.Need-number-requires
 number-requires c κs = search needs
 
 returns : tie.Need-returns
-unfolding arrival depart pathBy
+unfolding outcome depart pathBy
 returns c =
     let e = c .before .enum-told .given .1 in
     (rw (c .number .ensures, e), rw e)
@@ -39,14 +40,16 @@ depart-requires : tie.Need-depart-requires
 depart-requires c κs =
     let s = c .before .before .before .before .before .before .before .before .before .before .before in
     let a = s .args in
-    let h = decide-hops (a .n) (now (a .status)) (now (a .links)) (now (a .vectors)) (a .s .0) (a .d .0) _ (sym (s .pre .3) ∙ ap said (c .before .before .before .before .decision .given .1)) in
+    let R = report (a .n) (now (a .status)) (now (a .links)) in
+    let h = decide-hops R (now (a .vectors)) (a .s .0) (a .d .0) _ (sym (s .pre .3) ∙ ap said (c .before .before .before .before .decision .given .1)) in
     (s .pre .0, omega (arith, h, c .before .before .offer .ensures .1, s .pre .0), omega (arith, h, c .before .before .offer .ensures .1, s .pre .1))
 
 finish-requires : tie.Need-finish-requires
 finish-requires c κs =
     let s = c .before .before .before .before .before .before .before .before .before .before .before .before .before in
     let a = s .args in
-    let h = decide-hops (a .n) (now (a .status)) (now (a .links)) (now (a .vectors)) (a .s .0) (a .d .0) _ (sym (s .pre .3) ∙ ap said (c .before .before .before .before .before .before .decision .given .1)) in
+    let R = report (a .n) (now (a .status)) (now (a .links)) in
+    let h = decide-hops R (now (a .vectors)) (a .s .0) (a .d .0) _ (sym (s .pre .3) ∙ ap said (c .before .before .before .before .before .before .decision .given .1)) in
     (omega (arith, h, c .before .before .before .before .offer .ensures .1, c .before .depart .ensures .1, s .pre .0), omega (arith, h, c .before .before .before .before .offer .ensures .1, c .before .depart .ensures .1, s .pre .2))
 
 same-length : tie.Need-same-length
@@ -56,11 +59,12 @@ returns-2 : tie.Need-returns-2
 unfolding depart leaving
 returns-2 c =
     let a = c .before .before .before .before .before .before .before .before .before .before .before .before .before .before .before .before .args in
+    let R = report (a .n) (now (a .status)) (now (a .links)) in
     let o = c .before .before .before .before .before .before .before .offer .ensures in
     let t = c .before .before .before .before .before .before .to .ensures in
-    let x = c .before .before .before .before .depart .ensures .0 ∙ (λ i. leave (a .n) (now (a .status)) (now (a .links)) (now (a .vectors)) (now (a .picks)) (a .s .0) (t i) (o .0 i) (o .1 i)) in
-    let e = ap (λ (z : Decision). depart (said z) (leaving (a .n) (now (a .status)) (now (a .links)) (now (a .vectors)) (now (a .picks)) (a .s .0) (a .d .0))) (c .before .before .before .before .before .before .before .before .before .decision .given .1) ∙ ap (routeBy _) (sym x) in (
-      c .before .before .finish .ensures .0 ∙ sym (ap arrival e),
+    let x = c .before .before .before .before .depart .ensures .0 ∙ (λ i. leave R (now (a .vectors)) (now (a .picks)) (a .s .0) (t i) (o .0 i) (o .1 i)) in
+    let e = ap (λ (z : Decision). depart (said z) (leaving R (now (a .vectors)) (now (a .picks)) (a .s .0) (a .d .0))) (c .before .before .before .before .before .before .before .before .before .decision .given .1) ∙ ap (routeBy _) (sym x) in (
+      c .before .before .finish .ensures .0 ∙ sym (ap outcome e),
       c .before .before .finish .ensures .1 ∙ sym (ap (λ (z : Reply Route). pathBy z (a .s .0) (now (a .path))) e),
     )
 

@@ -6,7 +6,8 @@ use Rattle.cube.specs.Reply.{Reply}
 use Rattle.cube.proofs.Reply.{refused-accepted}
 use Rattle.vectors.specs.Fill.{said}
 use Rattle.rules.specs.Rules.{Choice}
-use Rattle.journey.specs.Journey.{leaving, depart, arrival, pathBy}
+use Rattle.report.specs.Report.{report}
+use Rattle.journey.specs.Journey.{leaving, depart, outcome, pathBy}
 use Rattle.journey.proofs.by_fill.Statement.{statement}
 use Rattle.journey.proofs.by_fill.Tie as tie
 
@@ -34,9 +35,10 @@ same-length c = search needs
 returns-2 : tie.Need-returns-2
 returns-2 c =
     let a = c .before .before .before .before .before .before .before .before .before .before .before .before .args in
+    let R = report (a .n) (now (a .status)) (now (a .links)) in
     let e = c .before .before .before .before .decide .ensures in
-    let go = leaving (a .n) (now (a .status)) (now (a .links)) (now (a .vectors)) (now (a .picks)) (a .s .0) (a .d .0) in (
-      c .before .before .by-decision .ensures .0 ∙ ap (λ (x : Reply Choice). arrival (depart x go)) e,
+    let go = leaving R (now (a .vectors)) (now (a .picks)) (a .s .0) (a .d .0) in (
+      c .before .before .by-decision .ensures .0 ∙ ap (λ (x : Reply Choice). outcome (depart x go)) e,
       c .before .before .by-decision .ensures .1 ∙ ap (λ (x : Reply Choice). pathBy (depart x go) (a .s .0) (now (a .path))) e,
     )
 

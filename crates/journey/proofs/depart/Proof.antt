@@ -8,9 +8,10 @@ use denote.Ref.{now}
 use Rattle.cube.specs.declared.Node.{Node}
 use Rattle.cube.specs.declared.Nav.{Nav}
 use Rattle.pick.proofs.Pick.{taken-le}
+use Rattle.report.specs.Report.{report}
 use Rattle.journey.specs.Journey.{leave}
-use Rattle.journey.specs.Walk.{Crossed}
-use Rattle.journey.proofs.Walks.{leave-first}
+use Rattle.journey.specs.Course.{Crossed}
+use Rattle.journey.proofs.Courses.{leave-first}
 use Rattle.journey.proofs.depart.Statement.{statement}
 use Rattle.journey.proofs.depart.Tie as tie
 
@@ -38,9 +39,10 @@ onward-requires c κs = search needs
 returns-2 : tie.Need-returns-2
 returns-2 c =
     let a = c .before .before .before .before .before .before .before .before .before .before .args in
+    let R = report (a .n) (now (a .status)) (now (a .links)) in
     let s = c .before .before .before .before .before .begin in (
       c .onward .ensures .0
-          ∙ leave-first (a .n) (now (a .status)) (now (a .links)) (now (a .vectors)) (now (a .picks)) (a .promised) (a .s .0) (a .nav .0) (a .mask)
+          ∙ leave-first R (now (a .vectors)) (now (a .picks)) (a .promised) (a .s .0) (a .nav .0) (a .mask)
           (s .result) (c .before .cross .result) (omega (arith, c .before .before .before .before .if1 .left)) (ap (λ (x : Node). x .0) (s .ensures .0)) (ap (λ (x : Nav). x .0) (s .ensures .1)) (s .ensures .2)
           (subst (λ (i : ℕ). Crossed (s .result) i (c .before .cross .result)) (c .before .before .taken .ensures) (c .before .cross .ensures)),
       c .onward .ensures .1,

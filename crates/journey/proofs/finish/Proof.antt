@@ -4,12 +4,12 @@ use native.Mathlib.Omega.{arith}
 use borrow.Author.Needs.{needs}
 use lib.ListN.{length, take}
 use lib.Seq.{length-take-le}
-use Rattle.journey.specs.Journey.{arrival, routeBy, pathBy}
+use Rattle.journey.specs.Journey.{outcome, routeBy, pathBy}
 use Rattle.journey.proofs.finish.Statement.{statement}
 use Rattle.journey.proofs.finish.Tie as tie
 
 returns : tie.Need-returns
-unfolding arrival routeBy pathBy
+unfolding outcome routeBy pathBy
 returns c = (rw (c .if1 .taken), rw (c .if1 .taken))
 
 write-path-requires : tie.Need-write-path-requires
@@ -22,7 +22,7 @@ same-length : tie.Need-same-length
 same-length c = search needs
 
 returns-2 : tie.Need-returns-2
-unfolding arrival routeBy pathBy
+unfolding outcome routeBy pathBy
 returns-2 c =
     let a = c .before .before .before .before .before .before .before .args in
     let l : length (a .w .boards) ≡ 11 = search needs in

@@ -8,10 +8,23 @@ use Rattle.cube.specs.Reply.{Reply, refused}
 use Rattle.vectors.specs.Fill.{fillRefusal, fill, filled}
 use Rattle.rules.specs.Decide.{decide}
 use Rattle.cube.proofs.Reply.{unless-some, unless-none, kept-some, kept-none}
-use Rattle.journey.specs.Journey.{Route, depart, leaving, route, journeyRefusal, journey, arrival, vectorsAfter, pathBy, pathAfter}
-use Rattle.journey.proofs.Refusals.{clear-of-none}
+use Rattle.report.specs.Report.{Report, report}
+use Rattle.journey.specs.Journey.{Route, depart, leaving, route, journeyRefusal, journey, outcome, vectorsAfter, pathBy, pathAfter}
+use Rattle.journey.proofs.Refusals.{Clear, clear-of-none}
 use Rattle.journey.proofs.journey.Statement.{statement}
 use Rattle.journey.proofs.journey.Tie as tie
+
+-- the report that the call is given
+abbrev given : tie.Start → Report
+given s = report (s .args .n) (now (s .args .status)) (now (s .args .links))
+
+-- the number by which it is refused before filling
+abbrev number : tie.Start → ℕ
+number s = journeyRefusal (given s) (now (s .args .vectors)) (now (s .args .picks)) (now (s .args .path)) (s .args .s .0) (s .args .d .0)
+
+-- the path by a route
+abbrev pathOf : tie.Start → Reply Route → List ℕ
+pathOf s x = pathBy x (s .args .s .0) (now (s .args .path))
 
 journey-refusal-requires : tie.Need-journey-refusal-requires
 journey-refusal-requires c κs = search needs
@@ -23,25 +36,30 @@ same-length-2 : tie.Need-same-length-2
 same-length-2 c = search needs
 
 returns : tie.Need-returns
-unfolding journey arrival vectorsAfter pathAfter pathBy
+unfolding journey outcome vectorsAfter pathAfter pathBy
 returns c =
-    let a = c .before .before .before .before .before .before .before .before .before .args in
+    let s = c .before .before .before .before .before .before .before .before .before in
     let e = c .before .journey-refusal .ensures in
-    let nz : journeyRefusal (a .n) (now (a .status)) (now (a .links)) (now (a .vectors)) (now (a .picks)) (now (a .path)) (a .s .0) (a .d .0) ≡ 0 → ⊥ = λ z. c .if1 .taken (e ∙ z) in
-    let j = unless-some (journeyRefusal (a .n) (now (a .status)) (now (a .links)) (now (a .vectors)) (now (a .picks)) (now (a .path)) (a .s .0) (a .d .0)) (route (a .n) (now (a .status)) (now (a .links)) (now (a .picks)) (a .s .0) (a .d .0)) nz in (
-      ap refused e ∙ sym (ap arrival j),
-      (sym (kept-some (journeyRefusal (a .n) (now (a .status)) (now (a .links)) (now (a .vectors)) (now (a .picks)) (now (a .path)) (a .s .0) (a .d .0)) _ _ nz), sym (ap (λ (x : Reply Route). pathBy x (a .s .0) (now (a .path))) j)),
-    )
+    let some : number s ≡ 0 → ⊥ = λ z. c .if1 .taken (e ∙ z) in
+    let j = unless-some (number s) (route (given s) (now (s .args .picks)) (s .args .s .0) (s .args .d .0)) some in
+    (ap refused e ∙ sym (ap outcome j), sym (kept-some (number s) _ _ some), sym (ap (pathOf s) j))
 
 fill-requires : tie.Need-fill-requires
 fill-requires c κs = search needs
 
+-- past the refusals
+clear : (c : tie.Else1) → let s = c .before .before .before .before .before .before .before .before .before in Clear (given s) (now (s .args .vectors)) (now (s .args .picks)) (now (s .args .path))
+clear c =
+    let s = c .before .before .before .before .before .before .before .before .before in
+    clear-of-none (given s) (now (s .args .vectors)) (now (s .args .picks)) (now (s .args .path)) (s .args .s .0) (s .args .d .0) (sym (c .before .journey-refusal .ensures) ∙ c .if1 .left)
+
 by-fill-requires : tie.Need-by-fill-requires
 unfolding fill
 by-fill-requires c κs =
-    let a = c .before .before .before .before .before .before .before .before .before .before .before .before .before .before .before .args in
-    let k = clear-of-none (a .n) (now (a .status)) (now (a .links)) (now (a .vectors)) (now (a .picks)) (now (a .path)) (a .s .0) (a .d .0) (sym (c .before .before .before .before .before .before .before .journey-refusal .ensures) ∙ c .before .before .before .before .before .before .if1 .left) in
-    (k .dim, k .chosen, k .room, c .before .before .before .before .fill .ensures .0 ∙ unless-none (fillRefusal (a .n) (now (a .status)) (now (a .links)) (now (a .vectors))) _ (k .fills))
+    let tested = c .before .before .before .before .before .before in
+    let s = tested .before .before .before .before .before .before .before .before .before in
+    let k = clear tested in
+    (k .dim, k .chosen, k .room, c .before .before .before .before .fill .ensures .0 ∙ unless-none (fillRefusal (given s) (now (s .args .vectors))) _ (k .fills))
 
 same-length-3 : tie.Need-same-length-3
 same-length-3 c = search needs
@@ -52,15 +70,15 @@ same-length-4 c = search needs
 returns-2 : tie.Need-returns-2
 unfolding filled journey route vectorsAfter pathAfter
 returns-2 c =
-    let a = c .before .before .before .before .before .before .before .before .before .before .before .before .before .before .before .before .before .before .args in
-    let z = sym (c .before .before .before .before .before .before .before .before .before .before .journey-refusal .ensures) ∙ c .before .before .before .before .before .before .before .before .before .if1 .left in
-    let m = c .before .before .before .before .before .before .before .fill .ensures .1 ∙ kept-none (fillRefusal (a .n) (now (a .status)) (now (a .links)) (now (a .vectors))) _ _ (clear-of-none (a .n) (now (a .status)) (now (a .links)) (now (a .vectors)) (now (a .picks)) (now (a .path)) (a .s .0) (a .d .0) z .fills) in
-    let e =
-    ap (λ (v : List ℕ). depart (decide (a .n) (now (a .status)) (now (a .links)) v (a .s .0) (a .d .0)) (leaving (a .n) (now (a .status)) (now (a .links)) v (now (a .picks)) (a .s .0) (a .d .0))) m
-    ∙ sym (unless-none (journeyRefusal (a .n) (now (a .status)) (now (a .links)) (now (a .vectors)) (now (a .picks)) (now (a .path)) (a .s .0) (a .d .0)) _ z) in (
-      c .before .before .by-fill .ensures .0 ∙ ap arrival e,
-      (m ∙ sym (kept-none (journeyRefusal (a .n) (now (a .status)) (now (a .links)) (now (a .vectors)) (now (a .picks)) (now (a .path)) (a .s .0) (a .d .0)) _ _ z), c .before .before .by-fill .ensures .1 ∙ ap (λ (x : Reply Route). pathBy x (a .s .0) (now (a .path))) e),
-    )
+    let tested = c .before .before .before .before .before .before .before .before .before in
+    let s = tested .before .before .before .before .before .before .before .before .before in
+    let a = s .args in
+    let none = sym (tested .before .journey-refusal .ensures) ∙ tested .if1 .left in
+    let written = c .before .before .before .before .before .before .before .fill .ensures .1 ∙ kept-none (fillRefusal (given s) (now (a .vectors))) _ _ (clear tested .fills) in
+    let way =
+    ap (λ (v : List ℕ). depart (decide (given s) v (a .s .0) (a .d .0)) (leaving (given s) v (now (a .picks)) (a .s .0) (a .d .0))) written
+    ∙ sym (unless-none (number s) _ none) in
+    (c .before .before .by-fill .ensures .0 ∙ ap outcome way, written ∙ sym (kept-none (number s) _ _ none), c .before .before .by-fill .ensures .1 ∙ ap (pathOf s) way)
 
 pub journey-spec : {M : Type 1} → statement M
 journey-spec =

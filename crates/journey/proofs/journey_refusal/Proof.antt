@@ -1,5 +1,6 @@
 -- `journey::journey_refusal` meets its contract: its tests are those of the list.
 use borrow.Author.Needs.{needs}
+use Rattle.report.specs.Report.{allSized, cube}
 use Rattle.journey.specs.Journey.{journeyRefusal}
 use Rattle.journey.proofs.journey_refusal.Statement.{statement}
 use Rattle.journey.proofs.journey_refusal.Tie as tie
@@ -16,8 +17,11 @@ works-requires-2 c κs = search needs
 refused-unless-requires-2 : tie.Need-refused-unless-requires-2
 refused-unless-requires-2 c κs = search needs
 
-both-within-requires : tie.Need-both-within-requires
-both-within-requires c κs = search needs
+has-node-requires : tie.Need-has-node-requires
+has-node-requires c κs = search needs
+
+has-node-requires-2 : tie.Need-has-node-requires-2
+has-node-requires-2 c κs = search needs
 
 refused-unless-requires-3 : tie.Need-refused-unless-requires-3
 refused-unless-requires-3 c κs = search needs
@@ -44,12 +48,12 @@ refused-unless-requires-6 : tie.Need-refused-unless-requires-6
 refused-unless-requires-6 c κs = search needs
 
 returns : tie.Need-returns
-unfolding journeyRefusal
+unfolding journeyRefusal allSized cube
 returns c =
     let sizes = c .before .before in
     let links = sizes .before .before .before in
     let nodes = links .before .before in
-    let here = nodes .before .before in
+    let here = nodes .before .before .before in
     let there = here .before .before in
     rw (
       c .refused-unless6 .ensures,
@@ -60,7 +64,8 @@ returns c =
       links .refused-unless4 .ensures,
       links .before .narrow .ensures,
       nodes .refused-unless3 .ensures,
-      nodes .before .both-within .ensures,
+      nodes .before .has-node2 .ensures,
+      nodes .before .before .has-node .ensures,
       here .refused-unless2 .ensures,
       here .before .works2 .ensures,
       there .refused-unless .ensures,
@@ -75,7 +80,8 @@ journey-refusal-spec =
     refused-unless-requires
     works-requires-2
     refused-unless-requires-2
-    both-within-requires
+    has-node-requires
+    has-node-requires-2
     refused-unless-requires-3
     narrow-requires
     refused-unless-requires-4

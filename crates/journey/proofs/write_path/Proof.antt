@@ -8,7 +8,7 @@ use native.Mathlib.Omega.{arith}
 use borrow.Author.Needs.{needs}
 use lib.ListN.{length, getD, set, length-set}
 use lib.Seq.{paste, paste-zero, paste-suc}
-use Rattle.journey.proofs.Walks.{path-end}
+use Rattle.journey.proofs.Courses.{path-end}
 use denote.Ref.{now}
 use Rattle.journey.proofs.write_path.Statement.{statement}
 use Rattle.journey.proofs.write_path.Tie as tie

@@ -1,4 +1,4 @@
--- `text::listing` meets its contract: too long an input is refused, and else Open's answer is told.
+-- `text::listing` meets its contract: too long an input is refused, and else Open's answer is listed.
 use borrow.Author.Needs.{needs}
 use borrow.Author.Tests.{lt-ltb, le-ltb}
 use native.Mathlib.Omega.{arith}
@@ -6,8 +6,8 @@ use lib.ListN.{length}
 use denote.Ref.{now}
 use Rattle.record.specs.Open.{said}
 use Rattle.text.specs.Text.{spell}
-use Rattle.text.specs.Listing.{titled, told, listing}
-use Rattle.text.proofs.Answers.{Answered, answered, length-refused, length-told, put-whole}
+use Rattle.text.specs.Listing.{titled, listed, listing}
+use Rattle.text.proofs.Answers.{Answered, answered, length-refused, length-listed, put-whole}
 use Rattle.text.proofs.listing.Statement.{statement}
 use Rattle.text.proofs.listing.Tie as tie
 
@@ -18,7 +18,7 @@ put-titled-requires : tie.Need-put-titled-requires
 put-titled-requires c κs = search needs
 
 returns : tie.Need-returns
-unfolding listing told
+unfolding listing listed
 returns c =
     let a = c .before .before .before .before .before .args in
     rw (lt-ltb 4096 (length (now (a .bytes))) (c .before .before .before .if1 .taken))
@@ -54,7 +54,7 @@ returns-2 c =
     let a = c .before .before .before .before .before .before .before .before .before .before .before .args in
     let o = c .before .before .before .before .before .before in
     rw (le-ltb 4096 (length (now (a .bytes))) (omega arith), ← answer o .tells)
-    (put-whole _ (now (a .out)) (c .put-opened .last .0) (c .put-opened .result) (c .put-opened .ensures) (omega (arith, length-told (said (o .«open» .result)) (o .«open» .last .1 .0) (o .«open» .last .1 .1 .0) (answer o .fit))))
+    (put-whole _ (now (a .out)) (c .put-opened .last .0) (c .put-opened .result) (c .put-opened .ensures) (omega (arith, length-listed (said (o .«open» .result)) (o .«open» .last .1 .0) (o .«open» .last .1 .1 .0) (answer o .fit))))
 
 pub listing-spec : {M : Type 1} → statement M
 listing-spec =

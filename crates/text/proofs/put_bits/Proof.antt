@@ -10,14 +10,14 @@ use Rattle.cube.specs.Count.{one}
 use Rattle.cube.proofs.Count.{one-le}
 use Rattle.held.specs.Held.{own}
 use Rattle.text.specs.Text.{row}
-use Rattle.text.specs.Put.{held}
+use Rattle.text.specs.Put.{heldBits}
 use Rattle.text.proofs.Placing.{put-byte}
 use Rattle.text.proofs.Text.{length-row, row-next}
 use Rattle.text.proofs.put_bits.Statement.{statement}
 use Rattle.text.proofs.put_bits.Tie as tie
 
 abbrev Inv-loop : tie.InvT-loop
-Inv-loop out₀ at n vectors a k₀ out k = (k ≤ n) × (out ≡ sets out₀ at (row (held vectors (a .0)) k))
+Inv-loop out₀ at n vectors a k₀ out k = (k ≤ n) × (out ≡ sets out₀ at (row (heldBits vectors (a .0)) k))
 
 abbrev μ-loop : tie.MeasureT-loop
 μ-loop out₀ at n vectors a k₀ out k = n - k
@@ -58,11 +58,11 @@ loop-less : tie.Need-loop-less Inv-loop μ-loop
 loop-less c = search needs
 
 loop-again : tie.Need-loop-again Inv-loop μ-loop
-unfolding held
+unfolding heldBits
 loop-again c =
     let a = c .before .before .before .before .before .args in
     let k = c .before .before .loop .k in
-    let bits = held (now (a .vectors)) (a .a .0) in (
+    let bits = heldBits (now (a .vectors)) (a .a .0) in (
       omega arith,
       rw (row-next, c .own .ensures)
           (put-byte (now (a .out)) (c .before .before .loop .out) (a .at) (row bits k) k (48 + one (bits (k + 1))) (length-row bits k) (c .before .before .loop .inv .1)),
@@ -77,7 +77,7 @@ same-length c = ap length (c .before .loop .inv .1) ∙ simp length-sets
 returns : tie.Need-returns Inv-loop μ-loop
 returns c =
     let a = c .before .before .before .before .args in
-    let bits = held (now (a .vectors)) (a .a .0) in
+    let bits = heldBits (now (a .vectors)) (a .a .0) in
     let e : c .before .loop .k ≡ a .n = omega arith in
     record {
       after = ap (λ (l : ℕ). a .at + l) (sym (length-row bits (a .n)));

@@ -7,7 +7,7 @@ use lib.ListN.{length}
 use lib.Pow.{pow-mono}
 use denote.Ref.{now}
 use Rattle.text.proofs.Placing.{put-then}
-use Rattle.text.proofs.Lines.{length-header, accepted-status, cube-told}
+use Rattle.text.proofs.Lines.{length-header, accepted-status, cube-listed}
 use Rattle.text.proofs.put_cube.Statement.{statement}
 use Rattle.text.proofs.put_cube.Tie as tie
 
@@ -37,7 +37,7 @@ returns : tie.Need-returns
 returns c =
     let s = c .before .before .before .before .before .before .before .before .before .before .before .before .before .before .before .before .before .before in
     let a = s .args in
-    rw (← cube-told (a .n) (now (a .status)) (now (a .links)) (now (a .vectors)) (c .before .before .before .before .before .before .before .before .before .before .before .before .fill .last .1 .1 .1 .0) (s .pre .1) (c .before .before .before .before .before .before .before .before .before .before .before .before .fill .ensures .1))
+    rw (← cube-listed (a .n) (now (a .status)) (now (a .links)) (now (a .vectors)) (c .before .before .before .before .before .before .before .before .before .before .before .before .fill .last .1 .1 .1 .0) (s .pre .1) (c .before .before .before .before .before .before .before .before .before .before .before .before .fill .ensures .1))
     (put-then (c .before .before .before .before .before .before .before .put-titled .ensures) (c .before .before .put-lines .ensures))
 
 pub put-cube-spec : {M : Type 1} → statement M

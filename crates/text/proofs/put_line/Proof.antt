@@ -2,7 +2,7 @@
 use borrow.Author.Needs.{needs}
 use native.Mathlib.Omega.{arith}
 use denote.Ref.{now}
-use Rattle.text.specs.Put.{held}
+use Rattle.text.specs.Put.{heldBits}
 use Rattle.text.specs.Listing.{line}
 use Rattle.text.proofs.Placing.{put-then}
 use Rattle.text.proofs.Text.{length-decimal, length-row}
@@ -50,7 +50,7 @@ put-requires-3 c κs =
       arith,
       length-decimal (a .a),
       length-named (c .before .before .before .before .before .before .before .before .before .before .before .before .before .before .before .before .before .before .before .before .before .before .before .before .class-of .result),
-      length-row (held (now (a .vectors)) (a .a)) (a .n),
+      length-row (heldBits (now (a .vectors)) (a .a)) (a .n),
     )
 
 same-length : tie.Need-same-length

@@ -6,7 +6,7 @@ use native.Mathlib.Omega.{arith}
 use lib.ListN.{length}
 use denote.Ref.{now}
 use Rattle.text.specs.Text.{joined}
-use Rattle.text.specs.Put.{Put, held}
+use Rattle.text.specs.Put.{Put, heldBits}
 use Rattle.text.specs.Listing.{line}
 use Rattle.text.proofs.Placing.{put-none, put-then, put-length}
 use Rattle.text.proofs.Text.{joined-next, length-joined}
@@ -15,7 +15,7 @@ use Rattle.text.proofs.put_lines.Statement.{statement}
 use Rattle.text.proofs.put_lines.Tie as tie
 
 abbrev Inv-loop : tie.InvT-loop
-Inv-loop out₀ at n status vectors end₀ a₀ out end a = (a ≤ length status) × Put (joined (line n status (held vectors)) a) at out₀ out end
+Inv-loop out₀ at n status vectors end₀ a₀ out end a = (a ≤ length status) × Put (joined (line n status (heldBits vectors)) a) at out₀ out end
 
 abbrev μ-loop : tie.MeasureT-loop
 μ-loop out₀ at n status vectors end₀ a₀ out end a = length status - a
@@ -27,8 +27,8 @@ loop-holds c = (omega arith, put-none _ _)
 put-line-requires : tie.Need-put-line-requires Inv-loop μ-loop
 put-line-requires c κs =
     let a = c .before .before .before .before .before .before .args in
-    let f = line (a .n) (now (a .status)) (held (now (a .vectors))) in
-    let room = length-joined f 24 (c .before .before .loop .a) (λ i. omega (arith, length-line (a .n) (now (a .status)) (held (now (a .vectors))) i)) in
+    let f = line (a .n) (now (a .status)) (heldBits (now (a .vectors))) in
+    let room = length-joined f 24 (c .before .before .loop .a) (λ i. omega (arith, length-line (a .n) (now (a .status)) (heldBits (now (a .vectors))) i)) in
     omega (arith, room, put-length (c .before .before .loop .inv .1))
 
 add-a : tie.Need-add-a Inv-loop μ-loop

@@ -1,7 +1,7 @@
 -- `text::put_opened` meets its contract: each arm is one case of the answer.
 use borrow.Author.Needs.{needs}
 use native.Mathlib.Omega.{arith}
-use Rattle.text.specs.Listing.{told}
+use Rattle.text.specs.Listing.{listed}
 use Rattle.text.proofs.put_opened.Statement.{statement}
 use Rattle.text.proofs.put_opened.Tie as tie
 
@@ -33,7 +33,7 @@ same-length-2 : tie.Need-same-length-2
 same-length-2 c = search needs
 
 returns-2 : tie.Need-returns-2
-unfolding told
+unfolding listed
 returns-2 c = rw (c .before .before .before .before .before .before .opened2 .given .1) (c .before .before .put-titled .ensures)
 
 pub put-opened-spec : {M : Type 1} → statement M

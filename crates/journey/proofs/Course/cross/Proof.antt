@@ -1,10 +1,10 @@
--- `journey::Walk::cross` meets its contract.
+-- `journey::Course::cross` meets its contract.
 use mathlib.Core.Path.{refl, ap, _∙_}
 use borrow.Author.Needs.{needs}
 use lib.ListN.{set}
 use Rattle.cube.proofs.Bits.{crossed-flip}
-use Rattle.journey.proofs.Walk.cross.Statement.{statement}
-use Rattle.journey.proofs.Walk.cross.Tie as tie
+use Rattle.journey.proofs.Course.cross.Statement.{statement}
+use Rattle.journey.proofs.Course.cross.Tie as tie
 
 neighbour-requires : tie.Need-neighbour-requires
 neighbour-requires c κs = search needs

@@ -1,4 +1,4 @@
--- `journey::Walk::follow` meets its contract: an answer that offers nothing stops the walk, and any other takes it one hop further.
+-- `journey::Course::follow` meets its contract: an answer that offers nothing stops the walk, and any other takes it one hop further.
 use mathlib.Core.Path.{sym, subst}
 use Prim.Native.Nat.{ℕ}
 use native.Mathlib.Nat.{le-trans, le-of-eq}
@@ -6,10 +6,10 @@ use borrow.Author.Needs.{needs}
 use Rattle.routing.specs.declared.Step.{Step}
 use Rattle.routing.specs.Hop.{said}
 use Rattle.pick.proofs.Pick.{taken-le}
-use Rattle.journey.specs.Walk.{Crossed, Followed}
-use Rattle.journey.proofs.Walks.{stop-follows}
-use Rattle.journey.proofs.Walk.follow.Statement.{statement}
-use Rattle.journey.proofs.Walk.follow.Tie as tie
+use Rattle.journey.specs.Course.{Crossed, Followed}
+use Rattle.journey.proofs.Courses.{stop-follows}
+use Rattle.journey.proofs.Course.follow.Statement.{statement}
+use Rattle.journey.proofs.Course.follow.Tie as tie
 
 enum-known-answer : tie.Need-enum-known-answer
 enum-known-answer c = search needs

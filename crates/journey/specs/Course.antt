@@ -1,4 +1,4 @@
--- The walk as the code carries it, and what it says.
+-- For Journey's private functions: a journey under way as the code carries it, and what it says.
 use Prim.Native.Nat.{ℕ, _+_}
 use mathlib.Core.Path.{_≡_}
 use mathlib.Core.Bool.{true, false, cond}
@@ -9,14 +9,14 @@ use Rattle.cube.specs.Reply.{Reply, refused, accepted}
 use Rattle.rules.specs.Rules.{Next, arrived, onward}
 use Rattle.pick.specs.Pick.{taken}
 use Rattle.journey.specs.Journey.{via}
-use Rattle.journey.specs.declared.Walk.{Walk}
+use Rattle.journey.specs.declared.Course.{Course}
 
 -- the boards after the source, or the refusal
-abbrev pub came : Walk → Reply (List ℕ)
+abbrev pub came : Course → Reply (List ℕ)
 came w = cond (w .refused) (refused (w .number)) (accepted (take (w .made) (w .boards)))
 
 -- one hop further, along dimension i
-pub record Crossed (w : Walk) (i : ℕ) (r : Walk) : Type 0 where
+pub record Crossed (w : Course) (i : ℕ) (r : Course) : Type 0 where
   pub long : length (w .boards) ≡ 11
   pub node : r .node .0 ≡ flip (w .node .0) i
   pub nav : r .nav .0 ≡ flip (w .nav .0) i
@@ -31,7 +31,7 @@ stopped (refused m) bs = refused m
 stopped (accepted x) bs = accepted bs
 
 -- what Hop's answer makes of a walk: it is over, or one hop further
-abbrev pub Followed : ℕ → Walk → Reply Next → ℕ → Walk → Type 0
+abbrev pub Followed : ℕ → Course → Reply Next → ℕ → Course → Type 0
 Followed n w (refused m) pick r = (r .over ≡ true) × (r .made ≡ w .made) × (came r ≡ refused m)
 Followed n w (accepted arrived) pick r = (r .over ≡ true) × (r .made ≡ w .made) × (came r ≡ accepted (take (w .made) (w .boards)))
 Followed n w (accepted (onward mask)) pick r = Crossed w (taken n mask pick) r

@@ -1,4 +1,4 @@
--- The laws of the walk as the code carries it.
+-- The laws of a journey under way as the code carries it.
 use mathlib.Core.Path.{_≡_, refl, ap, sym, _∙_}
 use mathlib.Core.Bool.{true, false, cond, true≢false}
 use mathlib.Core.Logic.{inl, inr}
@@ -12,6 +12,7 @@ use types.Run.{OneOf}
 use denote.Enum.Declared.{tagOf}
 use Rattle.cube.specs.Bits.{flip}
 use Rattle.cube.specs.Reply.{Reply, refused, accepted, numberOf, isRefusal}
+use Rattle.report.specs.Report.{Report}
 use Rattle.routing.proofs.Step.{the-type}
 use Rattle.routing.specs.declared.Step.{Step}
 use Rattle.routing.specs.declared.Step.the-variants.{Arrived, Offered, Refused}
@@ -20,8 +21,8 @@ use Rattle.rules.specs.Rules.{Next, arrived, onward}
 use Rattle.rules.specs.Hop.{hop}
 use Rattle.routing.specs.Hop.{said}
 use Rattle.journey.specs.Journey.{via, follow, hops, leave}
-use Rattle.journey.specs.declared.Walk.{Walk}
-use Rattle.journey.specs.Walk.{came, stopped, Crossed, Followed, through}
+use Rattle.journey.specs.declared.Course.{Course}
+use Rattle.journey.specs.Course.{came, stopped, Crossed, Followed, through}
 
 -- a refusal with its number, or the boards
 pub stops : (x : Reply Next) (bs : List ℕ) → cond (isRefusal x) (refused (numberOf x)) (accepted bs) ≡ stopped x bs
@@ -29,7 +30,7 @@ stops (refused m) bs = refl
 stops (accepted y) bs = refl
 
 -- an answer that offers nothing stops the walk
-pub stop-follows : (n : ℕ) (w : Walk) (x : Step) (pick : ℕ) (r : Walk) → OneOf (0 ∷ 2 ∷ []) (tagOf the-type x)
+pub stop-follows : (n : ℕ) (w : Course) (x : Step) (pick : ℕ) (r : Course) → OneOf (0 ∷ 2 ∷ []) (tagOf the-type x)
     → (r .over ≡ true) × (r .made ≡ w .made) × (came r ≡ stopped (said x) (take (w .made) (w .boards))) → Followed n w (said x) pick r
 stop-follows n w Arrived pick r t e = e
 stop-follows n w (Offered mask) pick r (inl z) e = absurd (omega arith)
@@ -64,38 +65,38 @@ path-end (x ∷ path) s bs k h =
 
 -- ---- the walk after j of its hops
 
-module _ (n : ℕ) (status links table picks : List ℕ) (promised : ℕ) where
+module _ (R : Report) (table picks : List ℕ) (promised : ℕ) where
   -- what the whole walk comes to is what its boards so far and its rest come to
-  pub record Under (whole : Reply (List ℕ)) (j : ℕ) (w : Walk) : Type 0 where
+  pub record Under (whole : Reply (List ℕ)) (j : ℕ) (w : Course) : Type 0 where
     pub made : w .made ≡ j
     pub going : w .refused ≡ false
-    pub rest : whole ≡ through (take j (w .boards)) (hops n status links table picks (promised - j) j (w .node .0) (w .nav .0))
+    pub rest : whole ≡ through (take j (w .boards)) (hops R table picks (promised - j) j (w .node .0) (w .nav .0))
 
-  abbrev answerTo : Walk → Reply Next
-  answerTo w = hop n status links table (w .node .0) (w .nav .0)
+  abbrev answerTo : Course → Reply Next
+  answerTo w = hop R table (w .node .0) (w .nav .0)
 
   -- what follows an offer
-  abbrev after : Walk → ℕ → ℕ → Reply (List ℕ)
+  abbrev after : Course → ℕ → ℕ → Reply (List ℕ)
   after w j mask =
-      let i = taken n mask (getD picks j 0) in
-      via (flip (w .node .0) i) (hops n status links table picks (promised - suc j) (suc j) (flip (w .node .0) i) (flip (w .nav .0) i))
+      let i = taken (R .dim) mask (getD picks j 0) in
+      via (flip (w .node .0) i) (hops R table picks (promised - suc j) (suc j) (flip (w .node .0) i) (flip (w .nav .0) i))
 
   -- one more hop to make
-  step : (whole : Reply (List ℕ)) (j : ℕ) (w : Walk) → j < promised → Under whole j w
+  step : (whole : Reply (List ℕ)) (j : ℕ) (w : Course) → j < promised → Under whole j w
       → whole ≡ through (take j (w .boards)) (follow (answerTo w) (after w j))
   unfolding hops
   step whole j w h u =
       u .rest
-      ∙ ap (λ (k : ℕ). through (take j (w .boards)) (hops n status links table picks k j (w .node .0) (w .nav .0)))
+      ∙ ap (λ (k : ℕ). through (take j (w .boards)) (hops R table picks k j (w .node .0) (w .nav .0)))
       (let e : promised - j ≡ suc (promised - suc j) = omega arith in e)
 
   -- a walk that goes on
-  pub under-next : (whole : Reply (List ℕ)) (j : ℕ) (w r : Walk) → j < promised → promised ≤ 11 → Under whole j w
-      → Followed n w (answerTo w) (getD picks j 0) r → r .over ≡ false → Under whole (j + 1) r
+  pub under-next : (whole : Reply (List ℕ)) (j : ℕ) (w r : Course) → j < promised → promised ≤ 11 → Under whole j w
+      → Followed (R .dim) w (answerTo w) (getD picks j 0) r → r .over ≡ false → Under whole (j + 1) r
   unfolding follow
   under-next whole j w r h l u f o = go (answerTo w) (step whole j w h u) f
     where
-      go : (x : Reply Next) → whole ≡ through (take j (w .boards)) (follow x (after w j)) → Followed n w x (getD picks j 0) r → Under whole (j + 1) r
+      go : (x : Reply Next) → whole ≡ through (take j (w .boards)) (follow x (after w j)) → Followed (R .dim) w x (getD picks j 0) r → Under whole (j + 1) r
       go (refused m) e g = absurd (true≢false (sym (g .0) ∙ o))
       go (accepted arrived) e g = absurd (true≢false (sym (g .0) ∙ o))
       go (accepted (onward mask)) e g =
@@ -106,12 +107,12 @@ module _ (n : ℕ) (status links table picks : List ℕ) (promised : ℕ) where
           }
 
   -- a walk that is over
-  pub under-over : (whole : Reply (List ℕ)) (j : ℕ) (w r : Walk) → j < promised → Under whole j w
-      → Followed n w (answerTo w) (getD picks j 0) r → r .over ≡ true → (came r ≡ whole) × (r .made ≤ promised)
+  pub under-over : (whole : Reply (List ℕ)) (j : ℕ) (w r : Course) → j < promised → Under whole j w
+      → Followed (R .dim) w (answerTo w) (getD picks j 0) r → r .over ≡ true → (came r ≡ whole) × (r .made ≤ promised)
   unfolding follow
   under-over whole j w r h u f o = go (answerTo w) (step whole j w h u) f
     where
-      go : (x : Reply Next) → whole ≡ through (take j (w .boards)) (follow x (after w j)) → Followed n w x (getD picks j 0) r
+      go : (x : Reply Next) → whole ≡ through (take j (w .boards)) (follow x (after w j)) → Followed (R .dim) w x (getD picks j 0) r
           → (came r ≡ whole) × (r .made ≤ promised)
       go (refused m) e g = (g .2 ∙ sym (e ∙ through-refused (take j (w .boards)) m), omega (arith, g .1, u .made))
       go (accepted arrived) e g = (
@@ -122,28 +123,28 @@ module _ (n : ℕ) (status links table picks : List ℕ) (promised : ℕ) where
       go (accepted (onward mask)) e g = absurd (true≢false (sym o ∙ g .over))
 
   -- a walk that has made its hops
-  pub under-end : (whole : Reply (List ℕ)) (j : ℕ) (w : Walk) → promised ≡ j → Under whole j w → came w ≡ whole
+  pub under-end : (whole : Reply (List ℕ)) (j : ℕ) (w : Course) → promised ≡ j → Under whole j w → came w ≡ whole
   unfolding hops
   under-end whole j w h u =
       rw (u .going, u .made)
       (sym
       (u .rest
-      ∙ ap (λ (k : ℕ). through (take j (w .boards)) (hops n status links table picks k j (w .node .0) (w .nav .0))) (let e : promised - j ≡ 0 = omega arith in e)
+      ∙ ap (λ (k : ℕ). through (take j (w .boards)) (hops R table picks k j (w .node .0) (w .nav .0))) (let e : promised - j ≡ 0 = omega arith in e)
       ∙ through-accepted (take j (w .boards)) []
       ∙ ap accepted (append-nil (take j (w .boards)))))
 
   -- the walk after its first hop
-  pub leave-first : (s nav mask : ℕ) (w r : Walk) → 0 < promised → w .node .0 ≡ s → w .nav .0 ≡ nav → w .made ≡ 0
-      → Crossed w (taken n mask (getD picks 0 0)) r
-      → through (take 1 (r .boards)) (hops n status links table picks (promised - 1) 1 (r .node .0) (r .nav .0)) ≡ leave n status links table picks s nav mask promised
+  pub leave-first : (s nav mask : ℕ) (w r : Course) → 0 < promised → w .node .0 ≡ s → w .nav .0 ≡ nav → w .made ≡ 0
+      → Crossed w (taken (R .dim) mask (getD picks 0 0)) r
+      → through (take 1 (r .boards)) (hops R table picks (promised - 1) 1 (r .node .0) (r .nav .0)) ≡ leave R table picks s nav mask promised
   unfolding through leave
   leave-first s nav mask w r h es en em x = whole promised h
     where
       b : ℕ
-      b = flip s (taken n mask (getD picks 0 0))
+      b = flip s (taken (R .dim) mask (getD picks 0 0))
 
       whole : (p : ℕ) → 0 < p
-          → through (take 1 (r .boards)) (hops n status links table picks (p - 1) 1 (r .node .0) (r .nav .0)) ≡ leave n status links table picks s nav mask p
+          → through (take 1 (r .boards)) (hops R table picks (p - 1) 1 (r .node .0) (r .nav .0)) ≡ leave R table picks s nav mask p
       whole zero l = absurd (omega arith)
       whole (suc k) l =
           let e : suc k - 1 ≡ k = omega arith in

@@ -1,4 +1,4 @@
--- `journey::Walk::stop` meets its contract.
+-- `journey::Course::stop` meets its contract.
 use mathlib.Core.Path.{refl, ap₂, _∙_}
 use mathlib.Core.Bool.{Bool, cond}
 use Prim.Native.Nat.{ℕ}
@@ -6,9 +6,9 @@ use borrow.Author.Needs.{needs}
 use lib.ListN.{take}
 use Rattle.cube.specs.Reply.{refused, accepted}
 use Rattle.routing.specs.Hop.{said}
-use Rattle.journey.proofs.Walks.{stops}
-use Rattle.journey.proofs.Walk.stop.Statement.{statement}
-use Rattle.journey.proofs.Walk.stop.Tie as tie
+use Rattle.journey.proofs.Courses.{stops}
+use Rattle.journey.proofs.Course.stop.Statement.{statement}
+use Rattle.journey.proofs.Course.stop.Tie as tie
 
 number-requires : tie.Need-number-requires
 number-requires c κs = search needs
