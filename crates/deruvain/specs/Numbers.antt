@@ -6,8 +6,8 @@ use Rattle.report.specs.declared.Class.{Class}
 use Rattle.report.specs.declared.Class.the-variants.{Silent, Working, Late, Down, Empty}
 use Rattle.rules.specs.Rules.{Choice, home, assured, lent, detour, maskOf, hopsOf, Next, arrived, onward}
 use Rattle.deruvain.specs.declared.Answer.{Answer}
-use Rattle.deruvain.specs.declared.Record.{Record}
-use Rattle.deruvain.specs.declared.Refresh.{Refresh}
+use Rattle.deruvain.specs.declared.Opened.{Opened}
+use Rattle.deruvain.specs.declared.Refreshed.{Refreshed}
 
 -- the classes, in the order of document 01
 abbrev pub classNumber : Class → ℕ
@@ -48,11 +48,11 @@ Travelled r (refused m) = Says r m 0 0 0
 Travelled r (accepted a) = Says r 0 (kindNumber (a .0)) (maskOf (a .0)) (a .1)
 
 -- what Open's answer becomes
-abbrev pub Read : Record → Reply ℕ → Type 0
+abbrev pub Read : Opened → Reply ℕ → Type 0
 Read r (refused m) = (r .refusal ≡ m) × (r .n ≡ 0)
 Read r (accepted n) = (r .refusal ≡ 0) × (r .n ≡ n)
 
 -- what Refresh's answer becomes
-abbrev pub Skipped : Refresh → Reply ℕ → Type 0
+abbrev pub Skipped : Refreshed → Reply ℕ → Type 0
 Skipped r (refused m) = (r .refusal ≡ m) × (r .skipped ≡ 0)
 Skipped r (accepted k) = (r .refusal ≡ 0) × (r .skipped ≡ k)

@@ -2,8 +2,6 @@
 use cube::Nav;
 use cube::Node;
 use journey::Trip;
-use log::Refreshed;
-use record::Opened;
 use report::Class;
 use routing::Decision;
 use routing::Kind;
@@ -35,14 +33,14 @@ pub struct Answer {
 
 // Open's answer: the refusal's number, 0 for none, and n, 0 after a refusal.
 #[repr(C)]
-pub struct Record {
+pub struct Opened {
     pub refusal: u32,
     pub n: u32,
 }
 
 // Refresh's answer: the refusal's number, 0 for none, and how many records from the future were skipped, 0 after a refusal.
 #[repr(C)]
-pub struct Refresh {
+pub struct Refreshed {
     pub refusal: u32,
     pub skipped: usize,
 }
@@ -219,12 +217,12 @@ pub extern "C" fn deruvain_journey(
 }
 
 // Open's answer as numbers.
-fn of_opened(opened: Opened) -> Record
+fn of_opened(opened: record::Opened) -> Opened
     ensures { λ r. ⌜ Read r (opening.said opened) ⌝ }
 {
     match opened {
-        Opened::Cube(n) => Record { refusal: 0, n },
-        Opened::Refused(number) => Record {
+        record::Opened::Cube(n) => Opened { refusal: 0, n },
+        record::Opened::Refused(number) => Opened {
             refusal: number,
             n: 0,
         },
@@ -233,7 +231,7 @@ fn of_opened(opened: Opened) -> Record
 
 // Open: n.
 #[no_mangle]
-pub extern "C" fn deruvain_open(bytes: &[u8], status: &mut [u8], links: &mut [u16]) -> Record
+pub extern "C" fn deruvain_open(bytes: &[u8], status: &mut [u8], links: &mut [u16]) -> Opened
     ensures answer { λ r. ⌜ Read r (opening.opened (now (bytes .entry)) (now (status .entry)) (now (links .entry))) ⌝ }
     ensures boards { λ r. ⌜ now (status .exit) ≡ opening.statusOpened (now (bytes .entry)) (now (status .entry)) (now (links .entry)) ⌝ }
     ensures words { λ r. ⌜ now (links .exit) ≡ opening.linksOpened (now (bytes .entry)) (now (status .entry)) (now (links .entry)) ⌝ }
@@ -242,15 +240,15 @@ pub extern "C" fn deruvain_open(bytes: &[u8], status: &mut [u8], links: &mut [u1
 }
 
 // Refresh's answer as numbers.
-fn of_refreshed(refreshed: Refreshed) -> Refresh
+fn of_refreshed(refreshed: log::Refreshed) -> Refreshed
     ensures { λ r. ⌜ Skipped r (logging.said refreshed) ⌝ }
 {
     match refreshed {
-        Refreshed::Done(skipped) => Refresh {
+        log::Refreshed::Done(skipped) => Refreshed {
             refusal: 0,
             skipped,
         },
-        Refreshed::Refused(number) => Refresh {
+        log::Refreshed::Refused(number) => Refreshed {
             refusal: number,
             skipped: 0,
         },
@@ -259,7 +257,7 @@ fn of_refreshed(refreshed: Refreshed) -> Refresh
 
 // Refresh: the status bytes from a log, and how many of its records are from the future.
 #[no_mangle]
-pub extern "C" fn deruvain_refresh(n: u32, sweep: u16, log: &[u8], status: &mut [u8]) -> Refresh
+pub extern "C" fn deruvain_refresh(n: u32, sweep: u16, log: &[u8], status: &mut [u8]) -> Refreshed
     ensures answer { λ r. ⌜ Skipped r (refreshing.refreshed n sweep (now (log .entry)) (now (status .entry))) ⌝ }
     ensures boards { λ r. ⌜ now (status .exit) ≡ refreshing.statusAfter n sweep (now (log .entry)) (now (status .entry)) ⌝ }
 {

@@ -7,7 +7,7 @@ use native.Mathlib.Numerals.{add-one, one-add}
 use native.Mathlib.Omega.{arith}
 use borrow.Author.Tests.{le-leb, eq-eqb, lt-ltb, leb-true, ltb-true, eqb-true}
 use lib.Pow.{shr-shr}
-use lib.ListN.{length, getD, List·getD-eq-default}
+use lib.ListN.{length, List·getD-eq-default}
 use Rattle.cube.specs.Bits.{bit}
 use Rattle.report.specs.Report.{cut}
 use Rattle.cube.specs.Count.{one, pack}
@@ -15,7 +15,7 @@ use Rattle.cube.proofs.Count.{one-bit-next}
 use Rattle.cube.proofs.Bits.{bit-high}
 use Rattle.report.specs.Health.{Cube}
 use Rattle.safety.specs.Safety.{registered, safe, vectors}
-use Rattle.held.specs.Held.{held, own, fits, heard, faultyLinks}
+use Rattle.held.specs.Held.{held, own, fits, heard}
 use Rattle.safety.proofs.Safety.{bit-vector, getD-vectors}
 
 -- over Fill's table the own bits are those of Definition 1
@@ -44,10 +44,10 @@ unfolding heard fits
 heard-at n links vectors a k hn hl hv ha =
     rw (le-leb n 10 hn, eq-eqb (length links) (2 ^ n) hl, eq-eqb (length vectors) (2 ^ n) hv, lt-ltb a (2 ^ n) ha)
 
--- and so that of the faulty links
-pub faultyLinks-at : (n : ℕ) (links : List ℕ) (a : ℕ) → n ≤ 10 → length links ≡ 2 ^ n → a < 2 ^ n → faultyLinks n links a ≡ pack (cut links a) n
-unfolding faultyLinks fits
-faultyLinks-at n links a hn hl ha = rw (le-leb n 10 hn, eq-eqb (length links) (2 ^ n) hl, lt-ltb a (2 ^ n) ha)
+-- the test of sizes passes
+pub fits-of : (n : ℕ) (xs : List ℕ) (a : ℕ) → n ≤ 10 → length xs ≡ 2 ^ n → a < 2 ^ n → fits n xs a ≡ true
+unfolding fits
+fits-of n xs a hn hl ha = rw (le-leb n 10 hn, eq-eqb (length xs) (2 ^ n) hl, lt-ltb a (2 ^ n) ha)
 
 -- what a test of `fits` tells
 pub fits-at : (n : ℕ) (xs : List ℕ) (a : ℕ) → fits n xs a ≡ true → (n ≤ 10) × (a < 2 ^ n) × (length xs ≡ 2 ^ n)

@@ -29,8 +29,3 @@ fits n xs a = leb n 10 && (sized n xs && within n a)
 unfoldable pub heard : ℕ → List ℕ → List ℕ → ℕ → ℕ → ℕ
 unfolding fits registered own pack
 heard n links vectors a k = cond (fits n links a && sized n vectors) (pack (registered (cut links) (own vectors k) a) n) 0
-
--- the mask of the faulty links of a; where that can't be read, none
-unfoldable pub faultyLinks : ℕ → List ℕ → ℕ → ℕ
-unfolding fits pack
-faultyLinks n links a = cond (fits n links a) (pack (cut links a) n) 0

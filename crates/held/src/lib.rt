@@ -2,14 +2,14 @@
 use cube::Node;
 ghost use mathlib.Core.Path.{_≡_};
 ghost use Prim.Native.Nat.{suc, _^_, _≤_, _<_};
-ghost use mathlib.Core.Bool.{_&&_};
+ghost use mathlib.Core.Bool.{_&&_, cond};
 ghost use lib.Dec.{eqb, leb};
 ghost use lib.ListN.{length};
 ghost use Rattle.cube.specs.Bits.{flip};
 ghost use Rattle.cube.specs.Count.{one, pack};
 ghost use Rattle.report.specs.Report.{cut, within};
 ghost use Rattle.safety.specs.Safety.{registered};
-ghost use Rattle.held.specs.Held.{held, own, heard, faultyLinks};
+ghost use Rattle.held.specs.Held.{held, own, fits, heard};
 
 // Bit k of a vector, as 1 or 0: bit 0, which is 1, is put below the others, and there is none above 16.
 pub fn bit_of(word: u16, k: u32) -> u32
@@ -114,7 +114,7 @@ pub fn heard(n: u32, links: &[u16], vectors: &[u16], a: Node, k: u32) -> u16
 
 // The mask of the faulty links of node a; 0 where that can't be read.
 pub fn faulty_links(n: u32, links: &[u16], a: Node) -> u16
-    ensures { λ r. ⌜ r ≡ faultyLinks n (now (links .entry)) (a .0) ⌝ }
+    ensures { λ r. ⌜ r ≡ cond (fits n (now (links .entry)) (a .0)) (pack (cut (now (links .entry)) (a .0)) n) 0 ⌝ }
 {
     if !fits(n, links.len(), a) {
         return 0;

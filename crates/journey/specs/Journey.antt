@@ -10,6 +10,7 @@ use Rattle.cube.specs.Reply.{Reply, refused, accepted, refusal, unless, kept}
 use Rattle.report.specs.Report.{Report, cube, dimension, allSized, within, narrow}
 use Rattle.safety.specs.Safety.{vectors, vectorsOf}
 use Rattle.pick.specs.Pick.{taken}
+use Rattle.rules.specs.Refusals.{bothWork}
 use Rattle.rules.specs.Rules.{Choice, maskOf, hopsOf, Next, arrived, onward}
 use Rattle.rules.specs.Decide.{decide}
 use Rattle.routing.specs.Decide.{chosen}
@@ -68,9 +69,7 @@ journeyRefusal R vecs picks path s d =
     ∷ (not (allSized R vecs && (leb (R .dim + 1) (length picks) && leb (R .dim + 2) (length path))), 2)
     ∷ (not (narrow (R .dim) (R .links)), 3)
     ∷ (not (within (R .dim) s && within (R .dim) d), 4)
-    ∷ (not (cube R .works s), 5)
-    ∷ (not (cube R .works d), 6)
-    ∷ [])
+    ∷ bothWork R s d)
 
 -- the boards after the source, by an acceptance
 unfoldable pub leaving : Report → (table picks : List ℕ) → (s d : ℕ) → Choice → Reply (List ℕ)

@@ -56,7 +56,10 @@ fn log_refusal(n: u32, log: &[u8], status: &[u8]) -> u32
 // Lets a record of this age speak for its node.
 fn put(row: &[u8], age: u16, status: &mut [u8])
     requires { ⌜ nodeIn (now row) < length (now status) ⌝ }
-    ensures { λ _. ⌜ now (status .exit) ≡ set (now (status .entry)) (nodeIn (now (row .entry))) (younger (getD (now (status .entry)) (nodeIn (now (row .entry))) 0) (cond (leb 32768 age) 0 (ageByte age))) ⌝ }
+    ensures { λ _.
+        let before = now (status .entry) in
+        let node = nodeIn (now (row .entry)) in
+        ⌜ now (status .exit) ≡ set before node (younger (getD before node 0) (cond (leb 32768 age) 0 (ageByte age))) ⌝ }
 {
     let node = word_at(row, 6) as usize;
     let byte = log_record::byte_of(age);

@@ -1,5 +1,5 @@
 -- The laws of a pick.
-use mathlib.Core.Path.{_≡_, refl, ap, sym, _∙_}
+use mathlib.Core.Path.{_≡_, ap, sym, _∙_}
 use mathlib.Core.Bool.{true}
 use Prim.Native.Nat.{ℕ, zero, suc, min, _^_, _≤_, _<_}
 use mathlib.Core.Logic.{⊎-elim}

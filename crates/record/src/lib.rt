@@ -68,7 +68,9 @@ fn link(bytes: &[u8], nodes: usize, a: usize) -> u16
 // Whether every link word of a record of that many nodes is below their number; a record of another length is not looked at.
 fn narrow_links(bytes: &[u8], nodes: usize) -> bool
     requires { ⌜ nodes < 65536 ⌝ }
-    ensures { λ r. ⌜ (nodes ≡ 2 ^ nIn (now (bytes .entry)) → length (now (bytes .entry)) ≡ 5 + 3 * nodes → r ≡ narrow (nIn (now (bytes .entry))) (linksIn (now (bytes .entry)))) ⌝ }
+    ensures { λ r.
+        let bytes = now (bytes .entry) in
+        ⌜ (nodes ≡ 2 ^ nIn bytes → length bytes ≡ 5 + 3 * nodes → r ≡ narrow (nIn bytes) (linksIn bytes)) ⌝ }
 {
     if bytes.len() != 5 + 3 * nodes {
         return true;

@@ -1,6 +1,6 @@
 -- When nothing refuses a message before the rules.
 use mathlib.Core.Path.{_≡_}
-use mathlib.Core.Bool.{Bool, true, not, cond, _&&_, and-eq-true-iff}
+use mathlib.Core.Bool.{true, not, cond, _&&_, and-eq-true-iff}
 use mathlib.Core.List.{List}
 use Prim.Native.Nat.{ℕ, _≤_, _<_, _^_}
 use native.Mathlib.Omega.{arith}

@@ -3,7 +3,7 @@ use mathlib.Core.Path.{sym, _∙_}
 use borrow.Author.Tests.{not-true, not-false}
 use borrow.Author.Needs.{needs}
 use denote.Ref.{now}
-use Rattle.held.specs.Held.{fits, faultyLinks}
+use Rattle.held.specs.Held.{fits}
 use Rattle.held.proofs.Held.{fits-at}
 use Rattle.held.proofs.faulty_links.Statement.{statement}
 use Rattle.held.proofs.faulty_links.Tie as tie
@@ -12,7 +12,7 @@ fits-requires : tie.Need-fits-requires
 fits-requires c κs = search needs
 
 returns : tie.Need-returns
-unfolding faultyLinks fits
+unfolding fits
 returns c = rw (sym (c .before .fits2 .ensures) ∙ not-true _ (c .if1 .taken))
 
 cast-faults : tie.Need-cast-faults
@@ -25,7 +25,7 @@ faults-requires c κs =
     fits-at (a .n) (now (a .links)) (a .a .0) (sym (c .before .before .fits2 .ensures) ∙ not-false _ (c .before .if1 .left))
 
 returns-2 : tie.Need-returns-2
-unfolding faultyLinks fits
+unfolding fits
 returns-2 c = rw (sym (c .before .before .before .fits2 .ensures) ∙ not-false _ (c .before .before .if1 .left)) (c .faults .ensures)
 
 pub faulty-links-spec : {M : Type 1} → statement M

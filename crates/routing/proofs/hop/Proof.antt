@@ -1,5 +1,5 @@
 -- `routing::hop` meets its contract: its refusals, then the rule at a later node.
-use mathlib.Core.Path.{_≡_, ap, sym, _∙_}
+use mathlib.Core.Path.{ap, sym, _∙_}
 use Prim.Native.Nat.{ℕ}
 use borrow.Author.Needs.{needs}
 use lib.Bits.{bitXor}

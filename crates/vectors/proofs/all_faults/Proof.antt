@@ -8,7 +8,7 @@ use lib.Pow.{pow-mono}
 use lib.ListN.{length, length-set}
 use Rattle.cube.specs.Table.{table}
 use Rattle.cube.proofs.Table.{written, written-none, written-next, written-all}
-use Rattle.held.proofs.Held.{faultyLinks-at}
+use Rattle.held.proofs.Held.{fits-of}
 use Rattle.vectors.specs.Rounds.{faults, allFaults}
 use Rattle.vectors.proofs.all_faults.Statement.{statement}
 use Rattle.vectors.proofs.all_faults.Tie as tie
@@ -48,7 +48,7 @@ loop-again c =
     let s = c .before .before .before .before .before in
     let a = s .args in
     let l = c .before .before .loop in
-    (omega arith, simp length-set (omega arith), written-next (faults (a .n) (now (a .links))) (now (a .masks)) (l .masks) (l .a) _ (omega arith) (l .inv .2) (c .faulty-links .ensures ∙ faultyLinks-at (a .n) (now (a .links)) (l .a) (s .pre .0) (s .pre .2) (omega (arith, s .pre .1))))
+    (omega arith, simp length-set (omega arith), written-next (faults (a .n) (now (a .links))) (now (a .masks)) (l .masks) (l .a) _ (omega arith) (l .inv .2) (rw (fits-of (a .n) (now (a .links)) (l .a) (s .pre .0) (s .pre .2) (omega (arith, s .pre .1))) at (c .faulty-links .ensures)))
 
 same-length : tie.Need-same-length Inv-loop μ-loop
 same-length c = search needs
