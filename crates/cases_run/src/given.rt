@@ -6,7 +6,21 @@ ghost use mathlib.Core.Path.{_≡_};
 ghost use Prim.Native.Nat.{_≤_, _<_};
 ghost use lib.ListN.{length};
 
-// A number, or the length of a list, and the place after it.
+// A list of bytes, 99 behind them, its length, and the place after it.
+struct Bytes {
+    values: [u8; 8192],
+    size: usize,
+    end: usize,
+}
+
+// A list of words, 99 behind them, its length, and the place after it.
+struct Words {
+    values: [u16; 8192],
+    size: usize,
+    end: usize,
+}
+
+// A number and the place after it.
 struct Found {
     value: usize,
     end: usize,
@@ -78,86 +92,82 @@ fn headed(line: &[u8], at: usize, head: u8) -> usize
     at + 2
 }
 
-// Reads the list of bytes that a letter heads at a place of a line; if there is none, its length is 0 and the place stays.
-fn bytes(line: &[u8], at: usize, head: u8, room: &mut [u8]) -> Found
-    requires { ⌜ (at ≤ length (now line)) × (0 < length (now room)) ⌝ }
-    ensures { λ r. ⌜ (r .value < length (now (room .entry))) × (r .end ≤ length (now (line .entry))) ⌝ }
+// The list of bytes that a letter heads at a place of a line; if there is none, its length is 0 and the place stays.
+fn read_bytes(line: &[u8], at: usize, head: u8) -> Bytes
+    requires { ⌜ at ≤ length (now line) ⌝ }
+    ensures { λ r. ⌜ (8192 ≡ length (r .values)) × (r .size < 8192) × (r .end ≤ length (now (line .entry))) ⌝ }
 {
+    let mut values = [99u8; 8192];
     let from = headed(line, at, head);
     if from == 0 {
-        return Found { value: 0, end: at };
+        return Bytes {
+            values,
+            size: 0,
+            end: at,
+        };
     }
-    let size = number(line, from, room.len() - 1);
-    let value = size.value;
-    let mut end = size.end;
+    let first = number(line, from, 8191);
+    let size = first.value;
+    let mut end = first.end;
     let mut count: usize = 0;
-    while count < value {
-        let found = number(line, end, 255);
-        if found.end == end {
-            return Found { value, end };
+    while count < size {
+        let next = number(line, end, 255);
+        if next.end == end {
+            return Bytes { values, size, end };
         }
-        room[count] = found.value as u8;
-        end = found.end;
+        values[count] = next.value as u8;
+        end = next.end;
         count += 1;
     }
-    Found { value, end }
+    Bytes { values, size, end }
 }
 
-// Reads the list of words that a letter heads at a place of a line; if there is none, its length is 0 and the place stays.
-fn words(line: &[u8], at: usize, head: u8, room: &mut [u16]) -> Found
-    requires { ⌜ (at ≤ length (now line)) × (0 < length (now room)) ⌝ }
-    ensures { λ r. ⌜ (r .value < length (now (room .entry))) × (r .end ≤ length (now (line .entry))) ⌝ }
+// The list of words that a letter heads at a place of a line; if there is none, its length is 0 and the place stays.
+fn read_words(line: &[u8], at: usize, head: u8) -> Words
+    requires { ⌜ at ≤ length (now line) ⌝ }
+    ensures { λ r. ⌜ (8192 ≡ length (r .values)) × (r .size < 8192) × (r .end ≤ length (now (line .entry))) ⌝ }
 {
+    let mut values = [99u16; 8192];
     let from = headed(line, at, head);
     if from == 0 {
-        return Found { value: 0, end: at };
+        return Words {
+            values,
+            size: 0,
+            end: at,
+        };
     }
-    let size = number(line, from, room.len() - 1);
-    let value = size.value;
-    let mut end = size.end;
+    let first = number(line, from, 8191);
+    let size = first.value;
+    let mut end = first.end;
     let mut count: usize = 0;
-    while count < value {
-        let found = number(line, end, 65535);
-        if found.end == end {
-            return Found { value, end };
+    while count < size {
+        let next = number(line, end, 65535);
+        if next.end == end {
+            return Words { values, size, end };
         }
-        room[count] = found.value as u16;
-        end = found.end;
+        values[count] = next.value as u16;
+        end = next.end;
         count += 1;
     }
-    Found { value, end }
-}
-
-// 99 in every place of some bytes.
-fn byte_room() -> [u8; 8192]
-    ensures { λ r. ⌜ 8192 ≡ length r ⌝ }
-{
-    [99; 8192]
-}
-
-// 99 in every place of some words.
-fn word_room() -> [u16; 8192]
-    ensures { λ r. ⌜ 8192 ≡ length r ⌝ }
-{
-    [99; 8192]
+    Words { values, size, end }
 }
 
 // Runs a job over lent memory too, unless some of the line is left over.
 fn lent(job: u8, n: u32, a: u16, b: u16, first: &[u8], links: &[u16], line: &[u8], at: usize)
     requires { ⌜ at ≤ length (now line) ⌝ }
 {
-    let mut vectors = word_room();
-    let mut more = byte_room();
-    let mut path = word_room();
-    let v = words(line, at, b'v', &mut vectors);
-    let m = bytes(line, v.end, b'm', &mut more);
-    let w = words(line, m.end, b'w', &mut path);
+    let v = read_words(line, at, b'v');
+    let m = read_bytes(line, v.end, b'm');
+    let w = read_words(line, m.end, b'w');
     if w.end < line.len() {
         return say::say(b"malformed");
     }
-    let i = v.value;
-    let j = m.value;
-    let k = w.value;
+    let mut vectors = v.values;
+    let mut more = m.values;
+    let mut path = w.values;
+    let i = v.size;
+    let j = m.size;
+    let k = w.size;
     jobs::run(
         job,
         n,
@@ -176,12 +186,12 @@ fn lent(job: u8, n: u32, a: u16, b: u16, first: &[u8], links: &[u16], line: &[u8
 fn inputs(job: u8, n: u32, a: u16, b: u16, line: &[u8], at: usize)
     requires { ⌜ at ≤ length (now line) ⌝ }
 {
-    let mut first = byte_room();
-    let mut links = word_room();
-    let f = bytes(line, at, b'b', &mut first);
-    let l = words(line, f.end, b'l', &mut links);
-    let i = f.value;
-    let j = l.value;
+    let f = read_bytes(line, at, b'b');
+    let l = read_words(line, f.end, b'l');
+    let first = f.values;
+    let links = l.values;
+    let i = f.size;
+    let j = l.size;
     lent(job, n, a, b, &first[0..i], &links[0..j], line, l.end);
 }
 

@@ -1,26 +1,22 @@
--- `given::bytes` is safe and ends, within the line and the room.
+-- `given::read_bytes` is safe and ends, within the line and the room.
 use borrow.Author.Needs.{needs}
 use mathlib.Core.Path.{_≡_}
 use Prim.Native.Nat.{_-_, _≤_, _<_}
-use native.Mathlib.Omega.{arith}
 use lib.ListN.{length, length-set}
-use Rattle.cases_run.proofs.given.bytes.Statement.{statement}
-use Rattle.cases_run.proofs.given.bytes.Tie as tie
+use Rattle.cases_run.proofs.given.read_bytes.Statement.{statement}
+use Rattle.cases_run.proofs.given.read_bytes.Tie as tie
 
 abbrev Inv-loop : tie.InvT-loop
-Inv-loop line at head room₀ from value end₀ count₀ room end count = (value < length room) × (length room ≡ length room₀) × (end ≤ length line)
+Inv-loop line at head values₀ from size end₀ count₀ values end count = (size < 8192) × (length values ≡ 8192) × (end ≤ length line)
 
 abbrev μ-loop : tie.MeasureT-loop
-μ-loop line at head room₀ from value end₀ count₀ room end count = value - count
+μ-loop line at head values₀ from size end₀ count₀ values end count = size - count
 
 headed-requires : tie.Need-headed-requires Inv-loop μ-loop
 headed-requires c κs = search needs
 
 returns : tie.Need-returns Inv-loop μ-loop
 returns c = search needs
-
-sub-number : tie.Need-sub-number Inv-loop μ-loop
-sub-number c = search needs
 
 number-requires : tie.Need-number-requires Inv-loop μ-loop
 number-requires c κs = search needs
@@ -31,17 +27,14 @@ loop-holds c = search needs
 number-requires-2 : tie.Need-number-requires-2 Inv-loop μ-loop
 number-requires-2 c κs = search needs
 
-same-length : tie.Need-same-length Inv-loop μ-loop
-same-length c = search needs
-
 returns-2 : tie.Need-returns-2 Inv-loop μ-loop
 returns-2 c = search needs
 
-cast-room : tie.Need-cast-room Inv-loop μ-loop
-cast-room c = search needs
+cast-values : tie.Need-cast-values Inv-loop μ-loop
+cast-values c = search needs
 
-slice-write-room : tie.Need-slice-write-room Inv-loop μ-loop
-slice-write-room c = search needs
+array-write-values : tie.Need-array-write-values Inv-loop μ-loop
+array-write-values c = search needs
 
 add-count : tie.Need-add-count Inv-loop μ-loop
 add-count c = search needs
@@ -52,30 +45,24 @@ loop-less c = search needs
 loop-again : tie.Need-loop-again Inv-loop μ-loop
 loop-again c = simp length-set (search needs)
 
-same-length-2 : tie.Need-same-length-2 Inv-loop μ-loop
-same-length-2 c = search needs
-
 returns-3 : tie.Need-returns-3 Inv-loop μ-loop
 returns-3 c = search needs
 
-pub bytes-spec : {M : Type 1} → statement M
-bytes-spec =
+pub read-bytes-spec : {M : Type 1} → statement M
+read-bytes-spec =
     tie.close
     (tie.spec
     Inv-loop
     μ-loop
     headed-requires
     returns
-    sub-number
     number-requires
     loop-holds
     number-requires-2
-    same-length
     returns-2
-    cast-room
-    slice-write-room
+    cast-values
+    array-write-values
     add-count
     loop-less
     loop-again
-    same-length-2
     returns-3)
