@@ -6,15 +6,8 @@ ghost use mathlib.Core.Path.{_≡_};
 ghost use Prim.Native.Nat.{_≤_, _<_};
 ghost use lib.ListN.{length};
 
-// A list of bytes, 99 behind them, its length, and the place after it.
-struct Bytes {
-    values: [u8; 8192],
-    size: usize,
-    end: usize,
-}
-
-// A list of words, 99 behind them, its length, and the place after it.
-struct Words {
+// A list with 99s behind it, its length, and the place after it.
+struct List {
     values: [u16; 8192],
     size: usize,
     end: usize,
@@ -92,45 +85,15 @@ fn headed(line: &[u8], at: usize, head: u8) -> usize
     at + 2
 }
 
-// The list of bytes that a letter heads at a place of a line; if there is none, its length is 0 and the place stays.
-fn read_bytes(line: &[u8], at: usize, head: u8) -> Bytes
-    requires { ⌜ at ≤ length (now line) ⌝ }
-    ensures { λ r. ⌜ (8192 ≡ length (r .values)) × (r .size < 8192) × (r .end ≤ length (now (line .entry))) ⌝ }
-{
-    let mut values = [99u8; 8192];
-    let from = headed(line, at, head);
-    if from == 0 {
-        return Bytes {
-            values,
-            size: 0,
-            end: at,
-        };
-    }
-    let first = number(line, from, 8191);
-    let size = first.value;
-    let mut end = first.end;
-    let mut count: usize = 0;
-    while count < size {
-        let next = number(line, end, 255);
-        if next.end == end {
-            return Bytes { values, size, end };
-        }
-        values[count] = next.value as u8;
-        end = next.end;
-        count += 1;
-    }
-    Bytes { values, size, end }
-}
-
-// The list of words that a letter heads at a place of a line; if there is none, its length is 0 and the place stays.
-fn read_words(line: &[u8], at: usize, head: u8) -> Words
+// The list of numbers up to a greatest that a letter heads at a place of a line; if there is none, its length is 0 and the place stays.
+fn numbers(line: &[u8], at: usize, head: u8, most: u16) -> List
     requires { ⌜ at ≤ length (now line) ⌝ }
     ensures { λ r. ⌜ (8192 ≡ length (r .values)) × (r .size < 8192) × (r .end ≤ length (now (line .entry))) ⌝ }
 {
     let mut values = [99u16; 8192];
     let from = headed(line, at, head);
     if from == 0 {
-        return Words {
+        return List {
             values,
             size: 0,
             end: at,
@@ -141,29 +104,43 @@ fn read_words(line: &[u8], at: usize, head: u8) -> Words
     let mut end = first.end;
     let mut count: usize = 0;
     while count < size {
-        let next = number(line, end, 65535);
+        let next = number(line, end, most as usize);
         if next.end == end {
-            return Words { values, size, end };
+            return List { values, size, end };
         }
         values[count] = next.value as u16;
         end = next.end;
         count += 1;
     }
-    Words { values, size, end }
+    List { values, size, end }
+}
+
+// A list of numbers up to 255, and the 99s behind it, as bytes.
+fn bytes(list: List) -> [u8; 8192]
+    ensures { λ r. ⌜ 8192 ≡ length r ⌝ }
+{
+    let values = list.values;
+    let mut bytes = [0u8; 8192];
+    let mut i: usize = 0;
+    while i < 8192 {
+        bytes[i] = (values[i] % 256) as u8;
+        i += 1;
+    }
+    bytes
 }
 
 // Runs a job over lent memory too, unless some of the line is left over.
 fn lent(job: u8, n: u32, a: u16, b: u16, first: &[u8], links: &[u16], line: &[u8], at: usize)
     requires { ⌜ at ≤ length (now line) ⌝ }
 {
-    let v = read_words(line, at, b'v');
-    let m = read_bytes(line, v.end, b'm');
-    let w = read_words(line, m.end, b'w');
+    let v = numbers(line, at, b'v', 65535);
+    let m = numbers(line, v.end, b'm', 255);
+    let w = numbers(line, m.end, b'w', 65535);
     if w.end < line.len() {
         return say::say(b"malformed");
     }
     let mut vectors = v.values;
-    let mut more = m.values;
+    let mut more = bytes(m);
     let mut path = w.values;
     let i = v.size;
     let j = m.size;
@@ -186,9 +163,9 @@ fn lent(job: u8, n: u32, a: u16, b: u16, first: &[u8], links: &[u16], line: &[u8
 fn inputs(job: u8, n: u32, a: u16, b: u16, line: &[u8], at: usize)
     requires { ⌜ at ≤ length (now line) ⌝ }
 {
-    let f = read_bytes(line, at, b'b');
-    let l = read_words(line, f.end, b'l');
-    let first = f.values;
+    let f = numbers(line, at, b'b', 255);
+    let l = numbers(line, f.end, b'l', 65535);
+    let first = bytes(f);
     let links = l.values;
     let i = f.size;
     let j = l.size;

@@ -1,16 +1,16 @@
--- `given::read_words` is safe and ends, within the line and the room.
+-- `given::numbers` is safe and ends, within the line and the room.
 use borrow.Author.Needs.{needs}
 use mathlib.Core.Path.{_≡_}
 use Prim.Native.Nat.{_-_, _≤_, _<_}
 use lib.ListN.{length, length-set}
-use Rattle.cases_run.proofs.given.read_words.Statement.{statement}
-use Rattle.cases_run.proofs.given.read_words.Tie as tie
+use Rattle.cases_run.proofs.given.numbers.Statement.{statement}
+use Rattle.cases_run.proofs.given.numbers.Tie as tie
 
 abbrev Inv-loop : tie.InvT-loop
-Inv-loop line at head values₀ from size end₀ count₀ values end count = (size < 8192) × (length values ≡ 8192) × (end ≤ length line)
+Inv-loop line at head most values₀ from size end₀ count₀ values end count = (size < 8192) × (length values ≡ 8192) × (end ≤ length line)
 
 abbrev μ-loop : tie.MeasureT-loop
-μ-loop line at head values₀ from size end₀ count₀ values end count = size - count
+μ-loop line at head most values₀ from size end₀ count₀ values end count = size - count
 
 headed-requires : tie.Need-headed-requires Inv-loop μ-loop
 headed-requires c κs = search needs
@@ -51,8 +51,8 @@ loop-again c = simp length-set (search needs)
 returns-3 : tie.Need-returns-3 Inv-loop μ-loop
 returns-3 c = search needs
 
-pub read-words-spec : {M : Type 1} → statement M
-read-words-spec =
+pub numbers-spec : {M : Type 1} → statement M
+numbers-spec =
     tie.close
     (tie.spec
     Inv-loop
