@@ -129,7 +129,7 @@ fn bytes(list: List) -> [u8; 8192]
     bytes
 }
 
-// Runs a job over lent memory too, unless some of the line is left over.
+// Runs a job over these inputs and the lent memory that the rest of the line gives, unless some of the line is left over.
 fn lent(job: u8, n: u32, a: u16, b: u16, first: &[u8], links: &[u16], line: &[u8], at: usize)
     requires { ⌜ at ≤ length (now line) ⌝ }
 {
@@ -159,41 +159,40 @@ fn lent(job: u8, n: u32, a: u16, b: u16, first: &[u8], links: &[u16], line: &[u8
     say::memory(job, &vectors, i, &more, j, &path, k);
 }
 
-// Goes on with the lists that every job only reads.
-fn inputs(job: u8, n: u32, a: u16, b: u16, line: &[u8], at: usize)
-    requires { ⌜ at ≤ length (now line) ⌝ }
-{
-    let f = numbers(line, at, b'b', 255);
-    let l = numbers(line, f.end, b'l', 65535);
-    let first = bytes(f);
-    let links = l.values;
-    let i = f.size;
-    let j = l.size;
-    lent(job, n, a, b, &first[0..i], &links[0..j], line, l.end);
-}
-
 // Runs a job over what stands behind its letter.
 fn run(job: u8, line: &[u8]) {
     let n = number(line, 0, 4294967295);
     let a = number(line, n.end, 65535);
     let b = number(line, a.end, 65535);
-    inputs(
+    let dimension = n.value as u32;
+    let s = a.value as u16;
+    let d = b.value as u16;
+    let f = numbers(line, b.end, b'b', 255);
+    let l = numbers(line, f.end, b'l', 65535);
+    let first = bytes(f);
+    let links = l.values;
+    let i = f.size;
+    let j = l.size;
+    lent(
         job,
-        n.value as u32,
-        a.value as u16,
-        b.value as u16,
+        dimension,
+        s,
+        d,
+        &first[0..i],
+        &links[0..j],
         line,
-        b.end,
+        l.end,
     );
 }
 
 // Prints a line's title and runs its case.
 pub(crate) fn case(line: &[u8]) {
     let colon = scan::find(line, 0, line.len(), b':');
-    say::say(&line[0..colon]);
-    say::say(b": ");
-    if 2 < line.len() - colon {
-        run(line[colon + 2], &line[colon + 3..]);
+    if line.len() - colon < 3 {
+        say::say(line);
+        return say::say(b": malformed\n");
     }
+    say::say(&line[0..colon + 2]);
+    run(line[colon + 2], &line[colon + 3..]);
     say::say(b"\n");
 }
