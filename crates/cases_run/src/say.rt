@@ -1,90 +1,104 @@
-// Printing on standard output.
+// Printing on standard output: what the jobs answer, and what they leave.
+use bytes::scan;
+use journey::Trip;
 use libc::STDOUT_FILENO;
+use log::Refreshed;
+use record::Opened;
+use routing::Decision;
 use routing::Kind;
 use routing::Offer;
-ghost use Prim.Native.Nat.{_≤_};
-ghost use lib.ListN.{length};
+use routing::Step;
+use vectors::Filled;
 
-// What lent memory holds before a job, so that a change shows.
+// What lent memory holds before a job.
 pub(crate) const LENT: u16 = 99;
 
 // Prints a text.
-pub(crate) fn say(words: &[u8]) {
-    io::write_all(STDOUT_FILENO, words);
+pub(crate) fn say(text: &[u8]) {
+    io::write_all(STDOUT_FILENO, text);
 }
 
 // Prints a text and a number.
-pub(crate) fn number(words: &[u8], value: u64) {
-    say(words);
+pub(crate) fn number(text: &[u8], value: u64) {
+    say(text);
     io::print_decimal(STDOUT_FILENO, value);
 }
 
-// The place of the first # of a text from i on, or the text's end.
-fn gap(text: &[u8], i: usize) -> usize
-    requires { ⌜ i ≤ length (now text) ⌝ }
-    ensures { λ r. ⌜ (i ≤ r) × (r ≤ length (now (text .entry))) ⌝ }
-{
-    let mut at = i;
-    while at < text.len() {
-        if text[at] == b'#' {
-            return at;
-        }
-        at += 1;
-    }
-    at
-}
-
-// One place further, but not past the end.
-fn past(at: usize, end: usize) -> usize
-    requires { ⌜ at ≤ end ⌝ }
-    ensures { λ r. ⌜ r ≤ end ⌝ }
-{
-    if at < end { at + 1 } else { at }
-}
-
-// Prints a text with these numbers in the places of its #.
-pub(crate) fn line(text: &[u8], numbers: &[u64]) {
-    let mut from: usize = 0;
-    let mut i: usize = 0;
-    while i < numbers.len() {
-        let at = gap(text, from);
-        number(&text[from..at], numbers[i]);
-        from = past(at, text.len());
-        i += 1;
-    }
-    say(&text[from..text.len()]);
-}
-
-// Ends a line.
-pub(crate) fn end() {
-    say(b"\n");
-}
-
-// Prints source and destination.
-pub(crate) fn ends(s: u16, d: u16) {
-    line(b", # to #: ", &[s as u64, d as u64]);
-}
-
 // Prints a refusal.
-pub(crate) fn refused(by: u32) {
+fn refused(by: u32) {
     number(b"refused ", by as u64);
 }
 
-// Prints a word of 16 bits after a space.
-fn word(value: u16) {
-    number(b" ", value as u64);
-}
-
-// Prints words of 16 bits.
-fn words(values: &[u16]) {
-    let mut i: usize = 0;
-    while i < values.len() {
-        word(values[i]);
-        i += 1;
+// Prints what Fill answers.
+pub(crate) fn filled(answer: Filled) {
+    match answer {
+        Filled::Done => say(b"done"),
+        Filled::Refused(by) => refused(by),
     }
 }
 
-// Whether no word differs from what it was before the job.
+// Prints a mask and the hops.
+fn offer(kind: &[u8], offered: Offer) {
+    say(kind);
+    number(b", mask ", offered.mask as u64);
+    number(b", hops ", offered.hops as u64);
+}
+
+// Prints how a source is accepted.
+fn kind(accepted: Kind) {
+    match accepted {
+        Kind::Home => say(b"home"),
+        Kind::Assured(offered) => offer(b"assured", offered),
+        Kind::Lent(offered) => offer(b"lent", offered),
+        Kind::Detour(offered) => offer(b"detour", offered),
+    }
+}
+
+// Prints what Decide answers.
+pub(crate) fn decided(answer: Decision) {
+    match answer {
+        Decision::Accepted(accepted) => kind(accepted),
+        Decision::Refused(by) => refused(by),
+    }
+}
+
+// Prints what Hop answers.
+pub(crate) fn hopped(answer: Step) {
+    match answer {
+        Step::Arrived => say(b"arrived"),
+        Step::Offered(mask) => number(b"mask ", mask as u64),
+        Step::Refused(by) => refused(by),
+    }
+}
+
+// Prints what Journey answers.
+pub(crate) fn made(answer: Trip) {
+    match answer {
+        Trip::Arrived(accepted, hops) => {
+            kind(accepted);
+            number(b", came by ", hops as u64);
+        },
+        Trip::Refused(by) => refused(by),
+    }
+}
+
+// Prints what Open answers.
+pub(crate) fn opened(answer: Opened) {
+    match answer {
+        Opened::Cube(n) => number(b"cube ", n as u64),
+        Opened::Refused(by) => refused(by),
+    }
+}
+
+// Prints what Refresh or Update answers.
+pub(crate) fn refreshed(answer: Refreshed) {
+    match answer {
+        Refreshed::Done(skipped) => number(b"skipped ", skipped as u64),
+        Refreshed::Refused(by) => refused(by),
+    }
+}
+
+// Whether every place holds 99.
 fn untouched(values: &[u16]) -> bool {
     let mut i: usize = 0;
     while i < values.len() {
@@ -96,45 +110,83 @@ fn untouched(values: &[u16]) -> bool {
     true
 }
 
-// Prints what lent memory holds after a job.
-pub(crate) fn lent(name: &[u8], values: &[u16]) {
+// Prints a word after a space.
+fn word(value: u16) {
+    number(b" ", value as u64);
+}
+
+// Prints words up to a place.
+fn words(values: &[u16], last: usize) {
+    let mut i: usize = 0;
+    while i < values.len() {
+        if last < i {
+            return;
+        }
+        word(values[i]);
+        i += 1;
+    }
+}
+
+// Prints lent words after a job, and the place behind them.
+fn left(name: &[u8], values: &[u16; 8192], size: usize) {
     say(name);
     if untouched(values) {
-        say(b" unchanged");
-        return;
+        return say(b" unchanged");
     }
-    words(values);
+    words(values, size);
 }
 
-// The same of the first of some words.
-fn first(name: &[u8], values: &[u16], count: usize) {
-    if count < values.len() {
-        lent(name, &values[0..count]);
-        return;
+// A byte as a word.
+fn widened(byte: u8) -> u16 {
+    byte as u16
+}
+
+// Bytes as words.
+fn wide(bytes: &[u8; 8192]) -> [u16; 8192] {
+    let mut words = [LENT; 8192];
+    let mut i: usize = 0;
+    while i < 8192 {
+        words[i] = widened(bytes[i]);
+        i += 1;
     }
-    lent(name, values);
+    words
 }
 
-// The same of the first of 17 words of which a part was lent.
-pub(crate) fn partly_lent(name: &[u8], values: &[u16; 17], count: usize) {
-    first(name, values, count);
+// Prints the memory that a job was lent.
+pub(crate) fn memory(
+    job: u8,
+    vectors: &[u16; 8192],
+    k: usize,
+    more: &[u8; 8192],
+    p: usize,
+    path: &[u16; 8192],
+    q: usize,
+) {
+    match job {
+        b'f' => left(b", vectors", vectors, k),
+        b'j' => {
+            left(b", vectors", vectors, k);
+            left(b", path", path, q);
+        },
+        b'o' => {
+            left(b", status", &wide(more), p);
+            left(b", links", vectors, k);
+        },
+        b'r' | b'u' => left(b", status", &wide(more), p),
+        _ => {},
+    }
 }
 
-// Prints a mask and the hops.
-fn offer(kind: &[u8], offered: Offer) {
-    say(kind);
-    line(
-        b", mask #, hops #",
-        &[offered.mask as u64, offered.hops as u64],
-    );
-}
-
-// Prints how a source is accepted.
-pub(crate) fn kind(accepted: Kind) {
-    match accepted {
-        Kind::Home => say(b"home"),
-        Kind::Assured(offered) => offer(b"assured", offered),
-        Kind::Lent(offered) => offer(b"lent", offered),
-        Kind::Detour(offered) => offer(b"detour", offered),
+// Prints a text on one line, | for each line's end.
+pub(crate) fn barred(text: &[u8]) {
+    let mut at: usize = 0;
+    while at < text.len() {
+        let end = scan::find(text, at, text.len(), b'\n');
+        say(&text[at..end]);
+        say(b"|");
+        if end == text.len() {
+            return;
+        }
+        at = end + 1;
     }
 }

@@ -6,13 +6,16 @@ use Rattle.cases_run.proofs.say.words.Statement.{statement}
 use Rattle.cases_run.proofs.say.words.Tie as tie
 
 abbrev Inv-loop : tie.InvT-loop
-Inv-loop values i₀ i = i ≤ length values
+Inv-loop values last i₀ i = i ≤ length values
 
 abbrev μ-loop : tie.MeasureT-loop
-μ-loop values i₀ i = length values - i
+μ-loop values last i₀ i = length values - i
 
 loop-holds : tie.Need-loop-holds Inv-loop μ-loop
 loop-holds c = search needs
+
+returns : tie.Need-returns Inv-loop μ-loop
+returns c = search needs
 
 mul-word : tie.Need-mul-word Inv-loop μ-loop
 mul-word c = search needs
@@ -32,8 +35,8 @@ loop-less c = search needs
 loop-again : tie.Need-loop-again Inv-loop μ-loop
 loop-again c = search needs
 
-returns : tie.Need-returns Inv-loop μ-loop
-returns c = search needs
+returns-2 : tie.Need-returns-2 Inv-loop μ-loop
+returns-2 c = search needs
 
 pub words-spec : {M : Type 1} → statement M
 words-spec =
@@ -42,10 +45,11 @@ words-spec =
     Inv-loop
     μ-loop
     loop-holds
+    returns
     mul-word
     shared-slice-read-word
     word-requires
     add-i
     loop-less
     loop-again
-    returns)
+    returns-2)
