@@ -1,36 +1,61 @@
 // Puts today's status bytes, made from the controller's log, into the record on standard input.
-ghost use Prim.Native.Nat.{_≤_};
-use libc::STDERR_FILENO;
 use libc::STDIN_FILENO;
 use libc::STDOUT_FILENO;
 use log::Refreshed;
 use log::Sweep;
 use record::Opened;
+use record::word_at;
+use report::Class;
+use words::say;
+use words::say_with;
+ghost use Prim.Native.Nat.{_≤_};
+ghost use lib.ListN.{length};
+ghost use Rattle.io.specs.Counts.{Counts};
 
-// How the reading of a log stands: the first refusal, 0 for none; the records skipped; whether there is more to read; and whether all was read.
+// What came of an input: how many bytes, and whether reading failed.
+struct Input {
+    count: usize,
+    failed: bool,
+}
+
+// How the reading of a log stands: the records read, those of them skipped, whether there is more to read, and whether all was read.
 struct Reading {
-    refusal: u32,
+    records: usize,
     skipped: usize,
     more: bool,
     whole: bool,
 }
 
-// Prints a line on standard error.
-fn say(words: &[u8]) {
-    io::write_all(STDERR_FILENO, words);
+// How many boards are silent, working and late. No log says that a board is down or that a slot is empty.
+struct Tally {
+    silent: usize,
+    working: usize,
+    late: usize,
 }
 
-// Prints a refusal.
-fn refused(number: u32) {
-    say(b"refused ");
-    io::print_decimal(STDERR_FILENO, number as u64);
-    say(b"\n");
-}
-
-// Whether an input has come to its end; a failed read says that it hasn't.
-fn ended(fd: i32) -> bool {
-    let mut more = [0u8; 1];
-    libc::read(fd, &mut more) >= 0
+// Reads until an input ends or the room is full.
+fn read_all(fd: i32, room: &mut [u8]) -> Input
+    ensures { λ r. ⌜ Counts (r .count) (now (room .exit)) ⌝ }
+{
+    let mut at: usize = 0;
+    while at < room.len() {
+        let got = libc::read(fd, &mut room[at..]);
+        if got < 0 {
+            return Input {
+                count: at,
+                failed: true,
+            };
+        }
+        let more = io::count(got, &room[at..]);
+        if more == 0 {
+            break;
+        }
+        at += more;
+    }
+    Input {
+        count: at,
+        failed: false,
+    }
 }
 
 // Two counts together, or the largest there is.
@@ -41,40 +66,90 @@ fn both(a: usize, b: usize) -> usize {
     a + b
 }
 
+// The place of the first refused record of a part, or of what is left after its last whole record.
+fn first_refused(part: &[u8], n: u32) -> usize
+    ensures { λ r. ⌜ r ≤ length (now (part .entry)) ⌝ }
+{
+    let mut at: usize = 0;
+    while 8 <= part.len() - at {
+        let end = at + 8;
+        if log_record::record_refusal(&part[at..end], n) != 0 {
+            return at;
+        }
+        at = end;
+    }
+    at
+}
+
+// Says what is wrong with a log's record that is refused by 11.
+fn malformed(row: &[u8], which: u64) {
+    if row.len() < 8 {
+        say_with(
+            b"the log ends within its record #: # of 8 bytes came\n",
+            &[which, row.len() as u64],
+        );
+        return;
+    }
+    say_with(
+        b"the log's record # has length # and kind #, and a status record has 6 and 2\n",
+        &[which, word_at(row, 0) as u64, word_at(row, 2) as u64],
+    );
+}
+
+// Says why a part of a log is refused, and in which record, after so many records before the part.
+fn refused(number: u32, before: usize, part: &[u8], n: u32) {
+    let at = first_refused(part, n);
+    let row = &part[at..];
+    let which = both(before, at / 8 + 1) as u64;
+    say_with(b"refresh: refused #: ", &[number as u64]);
+    match number {
+        11 => malformed(row, which),
+        12 => say_with(
+            b"the log's record # names node #, which a cabinet of # boards lacks\n",
+            &[which, word_at(row, 6) as u64, words::boards(n) as u64],
+        ),
+        _ => say(b"the log is refused\n"),
+    }
+}
+
 impl Reading {
+    // No more is read, and nothing comes of it.
+    fn failed() -> Reading {
+        Reading {
+            records: 0,
+            skipped: 0,
+            more: false,
+            whole: false,
+        }
+    }
+
     // After one more part: what was answered to it, and whether it was the last.
-    fn after(self, answer: Refreshed, last: bool) -> Reading {
+    fn after(self, answer: Refreshed, part: &[u8], n: u32, last: bool) -> Reading {
         match answer {
             Refreshed::Done(skipped) => Reading {
-                refusal: 0,
+                records: both(self.records, part.len() / 8),
                 skipped: both(self.skipped, skipped),
                 more: !last,
                 whole: last,
             },
-            Refreshed::Refused(number) => Reading {
-                refusal: number,
-                skipped: 0,
-                more: false,
-                whole: false,
+            Refreshed::Refused(number) => {
+                refused(number, self.records, part, n);
+                Reading::failed()
             },
         }
     }
 
     // Reads one more part of whole records, unless it is the last, and lets it speak.
     fn part(self, fd: i32, n: u32, sweep: u16, status: &mut [u8], room: &mut [u8]) -> Reading {
-        let count = io::read_full(fd, room);
-        let last = count < room.len();
-        if last {
-            if !ended(fd) {
-                return Reading {
-                    refusal: 0,
-                    skipped: 0,
-                    more: false,
-                    whole: false,
-                };
-            }
+        let input = read_all(fd, room);
+        if input.failed {
+            say(b"refresh: the log can't be read\n");
+            return Reading::failed();
         }
-        self.after(log::update(n, sweep, &room[..count], status), last)
+        let count = input.count;
+        let last = count < room.len();
+        let answer = log::update(n, sweep, &room[..count], status);
+        self.after(answer, &room[..count], n, last)
     }
 }
 
@@ -83,7 +158,7 @@ fn read_log(fd: i32, n: u32, sweep: u16, status: &mut [u8]) -> Reading {
     let mut space = io::large_buffer();
     let room: &mut [u8] = &mut space;
     let mut reading = Reading {
-        refusal: 0,
+        records: 0,
         skipped: 0,
         more: true,
         whole: false,
@@ -99,14 +174,73 @@ fn read_log(fd: i32, n: u32, sweep: u16, status: &mut [u8]) -> Reading {
     reading
 }
 
-// Prints the record with the log's status bytes in place of its own, and how many records were skipped.
-fn print(reading: Reading, bytes: &mut [u8], status: &[u8]) {
-    if reading.refusal != 0 {
-        refused(reading.refusal);
-        return;
+impl Tally {
+    // With one board more of this class.
+    fn with(self, class: Class) -> Tally {
+        match class {
+            Class::Silent => Tally {
+                silent: both(self.silent, 1),
+                working: self.working,
+                late: self.late,
+            },
+            Class::Working => Tally {
+                silent: self.silent,
+                working: both(self.working, 1),
+                late: self.late,
+            },
+            Class::Late => Tally {
+                silent: self.silent,
+                working: self.working,
+                late: both(self.late, 1),
+            },
+            Class::Down => self,
+            Class::Empty => self,
+        }
     }
+}
+
+// Counts the boards of each class.
+fn counted(status: &[u8]) -> Tally {
+    let mut counts = Tally {
+        silent: 0,
+        working: 0,
+        late: 0,
+    };
+    let mut a: usize = 0;
+    while a < status.len() {
+        let class = report::class_of(status[a]);
+        counts = counts.with(class);
+        a += 1;
+    }
+    counts
+}
+
+// Says what was read and how the boards stand, and warns where none works.
+fn tell(reading: Reading, sweep: u16, status: &[u8]) {
+    say_with(
+        b"refresh: records read: #, of these from the future and skipped: #\n",
+        &[reading.records as u64, reading.skipped as u64],
+    );
+    let boards = counted(status);
+    say_with(
+        b"refresh: boards silent: #, working: #, late: #\n",
+        &[
+            boards.silent as u64,
+            boards.working as u64,
+            boards.late as u64,
+        ],
+    );
+    if boards.working == 0 {
+        say_with(
+            b"refresh: warning: no board works at sweep #; is that the present sweep?\n",
+            &[sweep as u64],
+        );
+    }
+}
+
+// Prints the record with the log's status bytes in place of its own, if all of the log was read.
+fn print(reading: Reading, sweep: u16, bytes: &mut [u8], status: &[u8]) {
     if !reading.whole {
-        say(b"refresh: the log can't be read\n");
         return;
     }
     record::restate(bytes, status);
@@ -114,16 +248,7 @@ fn print(reading: Reading, bytes: &mut [u8], status: &[u8]) {
         say(b"refresh: standard output can't be written\n");
         return;
     }
-    say(b"refresh: records from the future skipped: ");
-    io::print_decimal(STDERR_FILENO, reading.skipped as u64);
-    say(b"\n");
-}
-
-// How many boards a cube of dimension n has, at most 1,024.
-fn boards(n: u32) -> usize
-    ensures { λ r. ⌜ r ≤ 1024 ⌝ }
-{
-    if 9 < n { 1024 } else { 1 << n }
+    tell(reading, sweep, status);
 }
 
 // Goes on if Open reads the record: no board is heard before the log speaks.
@@ -131,24 +256,25 @@ fn with_record(opened: Opened, fd: i32, sweep: u16, bytes: &mut [u8]) {
     match opened {
         Opened::Cube(n) => {
             let mut space = [0u8; 1024];
-            let status: &mut [u8] = &mut space[0..boards(n)];
+            let status: &mut [u8] = &mut space[0..words::boards(n)];
             let reading = read_log(fd, n, sweep, status);
-            print(reading, bytes, status);
+            print(reading, sweep, bytes, status);
         },
-        Opened::Refused(number) => refused(number),
+        Opened::Refused(number) => words::refused(b"refresh", bytes, number),
     }
 }
 
 // Reads the record on standard input, at most one byte more than a record may have.
 fn with_log(fd: i32, sweep: u16) {
     let mut bytes = [0u8; 4097];
-    let count = io::read_full(STDIN_FILENO, &mut bytes);
-    if count == 4097 {
-        refused(10);
+    let input = read_all(STDIN_FILENO, &mut bytes);
+    if input.failed {
+        say(b"refresh: standard input can't be read\n");
         return;
     }
-    if !ended(STDIN_FILENO) {
-        say(b"refresh: standard input can't be read\n");
+    let count = input.count;
+    if 4096 < count {
+        words::refused(b"refresh", &bytes, 10);
         return;
     }
     let mut status = [0u8; 1024];
@@ -157,7 +283,7 @@ fn with_log(fd: i32, sweep: u16) {
     with_record(opened, fd, sweep, &mut bytes[..count]);
 }
 
-// Opens the log that the second argument names.
+// Opens the log that the second argument names. Where standard input is closed, the log gets its number.
 fn with_sweep(sweep: u16) {
     let mut name = io::buffer();
     let length = os::arg(2, &mut name);
@@ -171,8 +297,12 @@ fn with_sweep(sweep: u16) {
     }
     let fd = os::open_read(&name[..length]);
     if fd < 0 {
-        say(b"refresh: ");
+        say(b"refresh: the log ");
         os::fail(&name[..length]);
+        return;
+    }
+    if fd == STDIN_FILENO {
+        say(b"refresh: standard input can't be read\n");
         return;
     }
     with_log(fd, sweep);
