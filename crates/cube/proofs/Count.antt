@@ -3,7 +3,7 @@ use mathlib.Core.Path.{_≡_, refl, ap, ap₂, sym, _∙_}
 use mathlib.Core.Bool.{Bool, true, false, not, xor, cond, _&&_, _||_, and-false, and-comm, or-true, or-false, true≢false, false≢true}
 use mathlib.Core.Logic.{⊎-elim}
 use Prim.Native.Nat.{ℕ, zero, suc, _+_, _*_, _-_, _/_, _%_, _^_, _≤_, _<_}
-use native.Mathlib.Nat.{mod-eq-of-lt, mod-one, mod-lt, le-trans, le-of-eq, lt-of-le-of-lt, lt-of-lt-of-le, add-zero, eq-zero-or-pos, pow-succ'}
+use native.Mathlib.Nat.{mod-eq-of-lt, mod-one, mod-lt, le-trans, le-of-eq, lt-of-le-of-lt, lt-of-lt-of-le, add-zero, eq-zero-or-pos, pow-succ', zero-mul, add-mul, mul-assoc, le-mul-of-pos-right}
 use native.Mathlib.Numerals.{add-one, add-two, add-three, add-four, add-five, one-add}
 use native.Mathlib.Omega.{arith}
 use borrow.Author.Tests.{lt-ltb, eq-eqb, ne-eqb, eqb-true, eqb-false}
@@ -79,14 +79,30 @@ unfolding pack
 pack-cong p q zero h = refl
 pack-cong p q (suc n) h = ap₂ (λ (x : ℕ) (b : Bool). x + one b * 2 ^ n) (pack-cong p q n (λ i l. h i (omega arith))) (h n (omega arith))
 
--- one dimension more as a loop packs it, in a word of w bits
-pub pack-more : (p : ℕ → Bool) (i w m x : ℕ) → i < w → m ≡ pack p i → x ≡ one (p (suc i)) → m + x * 2 ^ i % 2 ^ w ≡ pack p (i + 1)
-unfolding pack
-pack-more p i w m x h e d = rw add-one (ap₂ _+_ e (ap (λ (y : ℕ). y * 2 ^ i % 2 ^ w) d ∙ one-shift (p (suc i)) i w h))
+-- A mask that a loop packs from dimension n down to dimension i + 1: what is to come below it makes up the word.
+abbrev pub PackedTo : (ℕ → Bool) → ℕ → ℕ → ℕ → Type 0
+PackedTo p n i mask = pack p n ≡ pack p i + mask * 2 ^ i
 
--- and it fits
-pub pack-fits : (p : ℕ → Bool) (i w m x : ℕ) → i < w → m ≡ pack p i → x ≡ one (p (suc i)) → m + x * 2 ^ i % 2 ^ w < 2 ^ w
-pack-fits p i w m x h e d = rw (pack-more p i w m x h e d) (lt-of-lt-of-le (pack-lt p (i + 1)) (pow-mono {i = i + 1} {j = w} (omega arith)))
+pub packed-none : (p : ℕ → Bool) (n : ℕ) → PackedTo p n n 0
+packed-none p n = omega (arith, zero-mul (2 ^ n))
+
+-- one dimension more
+pub packed-more : (p : ℕ → Bool) (n i mask x : ℕ) → 0 < i → PackedTo p n i mask → x ≡ one (p (suc (i - 1))) → PackedTo p n (i - 1) (mask * 2 + x)
+unfolding pack
+packed-more p n zero mask x h e d = absurd (omega arith)
+packed-more p n (suc i) mask x h e d =
+    let j : suc i - 1 ≡ i = omega arith in
+    let digit : pack p (suc i) ≡ pack p i + x * 2 ^ i = ap (λ (y : ℕ). pack p i + y * 2 ^ i) (sym (rw j at d)) in
+    let twice : mask * 2 ^ suc i ≡ mask * (2 * 2 ^ i) = ap (λ (y : ℕ). mask * y) (let t : 2 ^ suc i ≡ 2 * 2 ^ i = omega arith in t) in
+    rw (j, add-mul (mask * 2) x (2 ^ i), mul-assoc mask 2 (2 ^ i)) (omega (arith, e, digit, twice))
+
+-- it is no more than the word
+pub packed-small : (p : ℕ → Bool) (n i mask : ℕ) → n ≤ 10 → PackedTo p n i mask → mask < 1024
+packed-small p n i mask h e = omega (arith, pack-lt p n, le-mul-of-pos-right mask (pow-pos i), pow-mono {i = n} {j = 10} h)
+
+pub packed-all : (p : ℕ → Bool) (n mask : ℕ) → PackedTo p n 0 mask → mask ≡ pack p n
+unfolding pack
+packed-all p n mask e = omega arith
 
 -- the bits of a packed word
 pub bit-pack : (p : ℕ → Bool) (n i : ℕ) → i < n → bit (pack p n) (suc i) ≡ p (suc i)

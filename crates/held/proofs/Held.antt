@@ -38,11 +38,11 @@ unfolding own
 own-past vectors k a h = ap (λ (w : ℕ). held w k) (List·getD-eq-default vectors 0 h)
 
 -- where the slices are of the cube's size the mask is that of the registered bits
-pub heard-at : (n : ℕ) (links vectors : List ℕ) (a k : ℕ) → n ≤ 10 → length links ≡ 2 ^ n → length vectors ≡ 2 ^ n → a < 2 ^ n
+pub heard-at : (n : ℕ) (links vectors : List ℕ) (a k : ℕ) → n ≤ 10 → length links ≡ 2 ^ n → length vectors ≡ 2 ^ n → a < 2 ^ n → k ≤ 16
     → heard n links vectors a k ≡ pack (registered (cut links) (own vectors k) a) n
 unfolding heard fits
-heard-at n links vectors a k hn hl hv ha =
-    rw (le-leb n 10 hn, eq-eqb (length links) (2 ^ n) hl, eq-eqb (length vectors) (2 ^ n) hv, lt-ltb a (2 ^ n) ha)
+heard-at n links vectors a k hn hl hv ha hk =
+    rw (le-leb n 10 hn, eq-eqb (length links) (2 ^ n) hl, eq-eqb (length vectors) (2 ^ n) hv, lt-ltb a (2 ^ n) ha, le-leb k 16 hk)
 
 -- the test of sizes passes
 pub fits-of : (n : ℕ) (xs : List ℕ) (a : ℕ) → n ≤ 10 → length xs ≡ 2 ^ n → a < 2 ^ n → fits n xs a ≡ true
@@ -65,3 +65,7 @@ held-digit w (suc k) =
     ap (λ (x : ℕ). x % 2)
     (ap (λ (j : ℕ). (w * 2 + 1) / 2 ^ j) (sym (one-add k)) ∙ sym (shr-shr (w * 2 + 1) 1 k) ∙ ap (λ (x : ℕ). x / 2 ^ k) (let e : (w * 2 + 1) / 2 ^ 1 ≡ w = omega arith in e))
     ∙ (rw add-one at (one-bit-next w k))
+
+-- a bit below 32 as the machine names it
+pub held-mod : (w k r : ℕ) → k < 32 → r ≡ one (held w (k % 32)) → r ≡ one (held w k)
+held-mod w k r h e = e ∙ ap (λ (j : ℕ). one (held w j)) (let m : k % 32 ≡ k = omega arith in m)

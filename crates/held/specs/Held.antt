@@ -25,7 +25,7 @@ unfoldable pub fits : ℕ → List ℕ → ℕ → Bool
 unfolding sized within
 fits n xs a = leb n 10 && (sized n xs && within n a)
 
--- the mask of the dimensions along which bit k is registered at a; where that can't be read, none
+-- the mask of the dimensions along which bit k, at most 16, is registered at a; where that can't be read, none
 unfoldable pub heard : ℕ → List ℕ → List ℕ → ℕ → ℕ → ℕ
 unfolding fits registered own pack
-heard n links vectors a k = cond (fits n links a && sized n vectors) (pack (registered (cut links) (own vectors k) a) n) 0
+heard n links vectors a k = cond (fits n links a && (sized n vectors && leb k 16)) (pack (registered (cut links) (own vectors k) a) n) 0

@@ -1,36 +1,43 @@
 // What the boards hold: the bits read off lent vectors, which may be wrong, and the links that count as faulty.
 use cube::Node;
 ghost use mathlib.Core.Path.{_≡_};
-ghost use Prim.Native.Nat.{suc, _^_, _≤_, _<_};
+ghost use Prim.Native.Nat.{suc, _%_, _^_, _≤_, _<_};
 ghost use mathlib.Core.Bool.{_&&_, cond};
 ghost use lib.Dec.{eqb, leb};
 ghost use lib.ListN.{length};
-ghost use Rattle.cube.specs.Bits.{flip};
+ghost use Rattle.cube.specs.Bits.{bit, flip};
 ghost use Rattle.cube.specs.Count.{one, pack};
 ghost use Rattle.report.specs.Report.{cut, within};
 ghost use Rattle.safety.specs.Safety.{registered};
 ghost use Rattle.held.specs.Held.{held, own, fits, heard};
 
-// Bit k of a vector, as 1 or 0: bit 0, which is 1, is put below the others, and there is none above 16.
+// Bit k of a vector, as 1 or 0: bit 0, which is 1, is put below the others. A k from 32 on is taken as k % 32.
 pub fn bit_of(word: u16, k: u32) -> u32
-    ensures digit { λ r. ⌜ r ≡ one (held word k) ⌝ }
+    ensures digit { λ r. ⌜ r ≡ one (held word (k % 32)) ⌝ }
     ensures small { λ r. ⌜ r ≤ 1 ⌝ }
+{
+    ((word as u32 * 2 + 1) >> (k % 32)) % 2
+}
+
+// Bit k of a vector, as 1 or 0, for any k.
+fn own_of(word: u16, k: u32) -> u32
+    ensures { λ r. ⌜ r ≡ one (held word k) ⌝ }
 {
     if 16 < k {
         return 0;
     }
-    ((word as u32 * 2 + 1) >> k) % 2
+    bit_of(word, k)
 }
 
-// Own bit k of node a, as 1 or 0; a node past the end has none but bit 0.
+// Own bit k of node a, as 1 or 0; there is none above 16, and a node past the end has none but bit 0.
 pub fn own(vectors: &[u16], a: Node, k: u32) -> u32
     ensures { λ r. ⌜ r ≡ one (own (now (vectors .entry)) k (a .0)) ⌝ }
 {
     let at = a.0 as usize;
     if vectors.len() <= at {
-        return bit_of(0, k);
+        return own_of(0, k);
     }
-    bit_of(vectors[at], k)
+    own_of(vectors[at], k)
 }
 
 // The neighbour of a along dimension i + 1.
@@ -41,6 +48,15 @@ fn across(a: usize, i: u32) -> usize
     a ^ (1 << i)
 }
 
+// Whether a word has the bit of dimension i + 1, as 1 or 0.
+fn marked(word: u16, i: u32) -> u32
+    requires { ⌜ i < 16 ⌝ }
+    ensures digit { λ r. ⌜ r ≡ one (bit word (suc i)) ⌝ }
+    ensures small { λ r. ⌜ r ≤ 1 ⌝ }
+{
+    (word >> i) as u32 % 2
+}
+
 // Whether the link of a along dimension i + 1 counts as faulty, as 1 or 0.
 fn faulty(links: &[u16], a: usize, i: u32) -> u32
     requires { ⌜ (i < 16) × (a < length (now links)) × (flip a (suc i) < length (now links)) ⌝ }
@@ -49,12 +65,12 @@ fn faulty(links: &[u16], a: usize, i: u32) -> u32
 {
     let b = across(a, i);
     let word = report::joint(links[a], links[b]);
-    bit_of(word, i + 1)
+    marked(word, i)
 }
 
 // Bit k of a's neighbour along dimension i + 1, as registered at a, as 1 or 0.
 fn registered(links: &[u16], vectors: &[u16], a: usize, i: u32, k: u32) -> u32
-    requires { ⌜ (i < 16) × (a < length (now links)) × (flip a (suc i) < length (now links)) × (flip a (suc i) < length (now vectors)) ⌝ }
+    requires { ⌜ (i < 16) × (k ≤ 16) × (a < length (now links)) × (flip a (suc i) < length (now links)) × (flip a (suc i) < length (now vectors)) ⌝ }
     ensures digit { λ r. ⌜ r ≡ one (registered (cut (now (links .entry))) (own (now (vectors .entry)) k) a (suc i)) ⌝ }
     ensures small { λ r. ⌜ r ≤ 1 ⌝ }
 {
@@ -64,15 +80,14 @@ fn registered(links: &[u16], vectors: &[u16], a: usize, i: u32, k: u32) -> u32
 
 // The mask of the dimensions 1 to n along which bit k is registered at a.
 fn registered_mask(n: u32, links: &[u16], vectors: &[u16], a: usize, k: u32) -> u16
-    requires { ⌜ (n ≤ 10) × (a < 2 ^ n) × (length (now links) ≡ 2 ^ n) × (length (now vectors) ≡ 2 ^ n) ⌝ }
+    requires { ⌜ (n ≤ 10) × (k ≤ 16) × (a < 2 ^ n) × (length (now links) ≡ 2 ^ n) × (length (now vectors) ≡ 2 ^ n) ⌝ }
     ensures { λ r. ⌜ r ≡ pack (registered (cut (now (links .entry))) (own (now (vectors .entry)) k) a) n ⌝ }
 {
     let mut mask: u16 = 0;
-    let mut i: u32 = 0;
-    while i < n {
-        let bit = registered(links, vectors, a, i, k) as u16;
-        mask = mask + (bit << i);
-        i += 1;
+    let mut i: u32 = n;
+    while 0 < i {
+        i -= 1;
+        mask = mask * 2 + registered(links, vectors, a, i, k) as u16;
     }
     mask
 }
@@ -83,11 +98,10 @@ fn faults(n: u32, links: &[u16], a: usize) -> u16
     ensures { λ r. ⌜ r ≡ pack (cut (now (links .entry)) a) n ⌝ }
 {
     let mut mask: u16 = 0;
-    let mut i: u32 = 0;
-    while i < n {
-        let bit = faulty(links, a, i) as u16;
-        mask = mask + (bit << i);
-        i += 1;
+    let mut i: u32 = n;
+    while 0 < i {
+        i -= 1;
+        mask = mask * 2 + faulty(links, a, i) as u16;
     }
     mask
 }
@@ -96,7 +110,11 @@ fn faults(n: u32, links: &[u16], a: usize) -> u16
 fn fits(n: u32, length: usize, a: Node) -> bool
     ensures { λ r. ⌜ r ≡ (leb n 10 && (eqb length (2 ^ n) && within n (a .0))) ⌝ }
 {
-    (n <= 10) & (report::sized(n, length) & report::has_node(n, a))
+    if 10 < n {
+        return false;
+    }
+    let nodes: usize = 1 << n;
+    (length == nodes) & ((a.0 as usize) < nodes)
 }
 
 // The mask of the dimensions along which bit k is registered at a; 0 where that can't be read.
@@ -106,7 +124,7 @@ pub fn heard(n: u32, links: &[u16], vectors: &[u16], a: Node, k: u32) -> u16
     if !fits(n, links.len(), a) {
         return 0;
     }
-    if !report::sized(n, vectors.len()) {
+    if !((vectors.len() == links.len()) & (k <= 16)) {
         return 0;
     }
     registered_mask(n, links, vectors, a.0 as usize, k)

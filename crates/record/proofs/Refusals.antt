@@ -1,16 +1,14 @@
 -- The refusals of Open: the number that comes first, and what follows where there is none.
-use mathlib.Core.Path.{_≡_, refl, sym, ap, _∙_}
+use mathlib.Core.Path.{_≡_, refl, ap}
 use mathlib.Core.Bool.{Bool, true, not, cond, _&&_, and-eq-true-iff}
 use mathlib.Core.List.{List, _++_}
-use mathlib.Core.Logic.{⊎-elim}
 use Prim.Native.Nat.{ℕ, zero, suc, _+_, _-_, _*_, _^_, _≤_, _<_}
 use native.Mathlib.Omega.{arith}
-use borrow.Author.Tests.{lt-ltb, le-ltb, le-leb, lt-leb, eq-eqb, ne-eqb, eqb-true, leb-true, ltb-false, not-false}
+use borrow.Author.Tests.{lt-ltb, le-ltb, eqb-true, leb-true, ltb-false, not-false}
 use lib.Dec.{leb, ltb, eqb}
 use lib.ListN.{length, drop}
 use Rattle.cube.specs.Reply.{refused, accepted, refusal, unless, kept}
 use Rattle.cube.proofs.Reply.{passed, later, refusal-le}
-use Rattle.cube.proofs.Order.{lt-or-ge, eq-or-ne}
 use Rattle.report.specs.Report.{dimension, narrow}
 use Rattle.report.proofs.Report.{dimension-range}
 use Rattle.record.specs.Open.{lengthIn, kindIn, nIn, statusIn, linksIn, openRefusal, opened, statusOpened, linksOpened}
@@ -19,29 +17,25 @@ use Rattle.record.specs.Open.{lengthIn, kindIn, nIn, statusIn, linksIn, 
 abbrev room : List ℕ → List ℕ → List ℕ → Bool
 room bytes status links = leb (2 ^ nIn bytes) (length status) && leb (2 ^ nIn bytes) (length links)
 
--- a length as the code compares it
-same : (l total : ℕ) → 5 ≤ total → eqb (l + 2) total ≡ eqb l (total - 2)
-same l total h =
-    ⊎-elim (λ (e : l ≡ total - 2). eq-eqb (l + 2) total (omega arith) ∙ sym (eq-eqb l (total - 2) e))
-    (λ (ne : l ≡ total - 2 → ⊥). ne-eqb (l + 2) total (λ e. ne (omega arith)) ∙ sym (ne-eqb l (total - 2) ne)) (eq-or-ne l (total - 2))
+-- under five bytes
+pub refuse-short : (bytes status links : List ℕ) → length bytes < 5 → openRefusal bytes status links ≡ 10
+unfolding openRefusal refusal
+refuse-short bytes status links h = rw (lt-ltb (length bytes) 5 h)
 
 -- The chain as the code has it: the number of nodes and the link words are looked at only where the tests before them pass.
-pub chain : (bytes status links : List ℕ) (nodes : ℕ) (sound : Bool)
+pub chain : (bytes status links : List ℕ) (nodes : ℕ) (sound : Bool) → 5 ≤ length bytes
     → (nIn bytes ≤ 10 → nodes ≡ 2 ^ nIn bytes)
     → (nodes ≡ 2 ^ nIn bytes → length bytes ≡ 5 + 3 * nodes → sound ≡ narrow (nIn bytes) (linksIn bytes))
-    → cond (not (leb 5 (length bytes))) 10
-    (cond (not (eqb (lengthIn bytes + 2) (length bytes))) 10
+    → cond (not (eqb (lengthIn bytes) (length bytes - 2))) 10
     (cond (not (eqb (kindIn bytes) 1)) 10
     (cond (not (dimension (nIn bytes))) 1
     (cond (not (eqb (lengthIn bytes) (3 + 3 * nodes))) 10
     (cond (not (leb nodes (length status) && leb nodes (length links))) 2
-    (cond (not sound) 3 0))))))
+    (cond (not sound) 3 0)))))
     ≡ openRefusal bytes status links
 unfolding openRefusal refusal
-chain bytes status links nodes sound count look =
-    ⊎-elim (λ (h : length bytes < 5). rw (lt-leb 5 (length bytes) h, lt-ltb (length bytes) 5 h))
-    (λ (h : 5 ≤ length bytes).
-    rw (le-leb 5 (length bytes) h, le-ltb (length bytes) 5 h, same (lengthIn bytes) (length bytes) h)
+chain bytes status links nodes sound h count look =
+    rw (le-ltb (length bytes) 5 h)
     (later (eqb (lengthIn bytes) (length bytes - 2)) 10 _ _ (λ total.
     later (eqb (kindIn bytes) 1) 10 _ _ (λ kind.
     later (dimension (nIn bytes)) 1 _ _ (λ dim.
@@ -49,8 +43,7 @@ chain bytes status links nodes sound count look =
     rw e
     (later (eqb (lengthIn bytes) (3 + 3 * 2 ^ nIn bytes)) 10 _ _ (λ size.
     ap (λ (b : Bool). cond (not (room bytes status links)) 2 (cond (not b) 3 0))
-    (look e (omega (arith, e, h, eqb-true (lengthIn bytes) (length bytes - 2) total, eqb-true (lengthIn bytes) (3 + 3 * 2 ^ nIn bytes) size))))))))))
-    (lt-or-ge (length bytes) 5)
+    (look e (omega (arith, e, h, eqb-true (lengthIn bytes) (length bytes - 2) total, eqb-true (lengthIn bytes) (3 + 3 * 2 ^ nIn bytes) size)))))))))
 
 -- no number is above 10
 pub open-refusal-le : (bytes status links : List ℕ) → openRefusal bytes status links ≤ 10

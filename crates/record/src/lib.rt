@@ -3,7 +3,7 @@ use cube::refused_unless;
 ghost use mathlib.Core.Path.{_≡_};
 ghost use mathlib.Core.List.{_++_};
 ghost use Prim.Native.Nat.{_+_, _*_, _%_, _^_, _<_, _≤_};
-ghost use lib.ListN.{length, getD, drop};
+ghost use lib.ListN.{length, drop};
 ghost use Rattle.cube.specs.Reply.{OneAnswer};
 ghost use Rattle.report.specs.Report.{narrow};
 ghost use Rattle.record.specs.Open.{word, nIn, statusIn, linksIn, openRefusal, opened, statusOpened, linksOpened, said};
@@ -36,16 +36,6 @@ pub fn word_at(bytes: &[u8], i: usize) -> u16
     } else {
         word(bytes, i)
     }
-}
-
-// The byte at i; past the end 0.
-fn byte_at(bytes: &[u8], i: usize) -> u8
-    ensures { λ r. ⌜ r ≡ getD (now (bytes .entry)) i 0 ⌝ }
-{
-    if bytes.len() <= i {
-        return 0;
-    }
-    bytes[i]
 }
 
 // How many nodes a cube of dimension n has; n from 16 on is taken as n % 16.
@@ -90,9 +80,12 @@ fn narrow_links(bytes: &[u8], nodes: usize) -> bool
 fn refusal(bytes: &[u8], status: &[u8], links: &[u16]) -> u32
     ensures { λ r. ⌜ r ≡ openRefusal (now (bytes .entry)) (now (status .entry)) (now (links .entry)) ⌝ }
 {
-    let length = word_at(bytes, 0) as usize;
-    let kind = word_at(bytes, 2);
-    let n = byte_at(bytes, 4) as u32;
+    if bytes.len() < 5 {
+        return 10;
+    }
+    let length = word(bytes, 0) as usize;
+    let kind = word(bytes, 2);
+    let n = bytes[4] as u32;
     let nodes = nodes_of(n);
     let by_3 = refused_unless(narrow_links(bytes, nodes), 3, 0);
     let roomy = (nodes <= status.len()) & (nodes <= links.len());
@@ -100,8 +93,7 @@ fn refusal(bytes: &[u8], status: &[u8], links: &[u16]) -> u32
     let by_size = refused_unless(length == 3 + 3 * nodes, 10, by_2);
     let by_1 = refused_unless(report::dimension(n), 1, by_size);
     let by_kind = refused_unless(kind == 1, 10, by_1);
-    let by_length = refused_unless(length + 2 == bytes.len(), 10, by_kind);
-    refused_unless(5 <= bytes.len(), 10, by_length)
+    refused_unless(length == bytes.len() - 2, 10, by_kind)
 }
 
 // Copies the status bytes of a record of that many nodes into the first places.

@@ -85,7 +85,7 @@ impl Step {
 
 // The mask of the dimensions among dims whose neighbour of a has bit k, as registered at a.
 fn mask(n: u32, links: &[u16], vectors: &[u16], dims: u16, a: Node, k: u32) -> u16
-    requires { ⌜ (n ≤ 10) × (length (now links) ≡ 2 ^ n) × (length (now vectors) ≡ 2 ^ n) × (a .0 < 2 ^ n) ⌝ }
+    requires { ⌜ (n ≤ 10) × (length (now links) ≡ 2 ^ n) × (length (now vectors) ≡ 2 ^ n) × (a .0 < 2 ^ n) × (k ≤ 16) ⌝ }
     ensures { λ r. ⌜ r ≡ offer n (cut (now (links .entry))) (own (now (vectors .entry)) k) dims (a .0) ⌝ }
 {
     held::heard(n, links, vectors, a, k) & dims

@@ -1,7 +1,6 @@
 -- `held::faulty` meets its contract: the words of both ends are read, and taken together.
 use mathlib.Core.Path.{ap, _∙_}
 use Prim.Native.Nat.{ℕ, suc}
-use native.Mathlib.Numerals.{add-one}
 use borrow.Author.Needs.{needs}
 use lib.ListN.{getD}
 use denote.Ref.{now}
@@ -9,7 +8,6 @@ use Rattle.cube.specs.Bits.{bit}
 use Rattle.cube.specs.Count.{one, pack}
 use Rattle.report.specs.Report.{joint}
 use Rattle.report.proofs.Report.{cut-joint}
-use Rattle.held.specs.Held.{held}
 use Rattle.held.proofs.faulty.Statement.{statement}
 use Rattle.held.proofs.faulty.Tie as tie
 
@@ -31,19 +29,15 @@ shared-slice-read-joint-2 c = search needs
 joint-requires : tie.Need-joint-requires
 joint-requires c κs = search needs
 
-add-bit-of : tie.Need-add-bit-of
-add-bit-of c = search needs
-
-bit-of-requires : tie.Need-bit-of-requires
-bit-of-requires c κs = search needs
+marked-requires : tie.Need-marked-requires
+marked-requires c κs = search needs
 
 returns : tie.Need-returns
-unfolding held
 returns c =
     let s = c .before .before .before .before .before .before in
     let a = s .args in
     let words = c .before .joint .ensures ∙ ap (λ (b : ℕ). pack (joint (getD (now (a .links)) (a .a) 0) (getD (now (a .links)) b 0)) 16) (c .before .before .before .before .across .ensures) in
-    (rw add-one at (c .bit-of .ensures .0) ∙ ap one (ap (λ (w : ℕ). bit w (suc (a .i))) words ∙ cut-joint (now (a .links)) (a .a) (a .i) (s .pre .0)), c .bit-of .ensures .1)
+    (c .marked .ensures .0 ∙ ap one (ap (λ (w : ℕ). bit w (suc (a .i))) words ∙ cut-joint (now (a .links)) (a .a) (a .i) (s .pre .0)), c .marked .ensures .1)
 
 pub faulty-spec : {M : Type 1} → statement M
 faulty-spec =
@@ -55,6 +49,5 @@ faulty-spec =
     mul-joint-2
     shared-slice-read-joint-2
     joint-requires
-    add-bit-of
-    bit-of-requires
+    marked-requires
     returns)

@@ -11,6 +11,7 @@ use Rattle.cube.proofs.Count.{unless-le}
 use Rattle.report.specs.Report.{cut}
 use Rattle.held.specs.Held.{held, own}
 use Rattle.safety.proofs.Safety.{registered-digit}
+use Rattle.held.proofs.Held.{held-mod}
 use Rattle.held.proofs.registered.Statement.{statement}
 use Rattle.held.proofs.registered.Tie as tie
 
@@ -38,10 +39,11 @@ mul-result c = record { fits = lt-of-le-of-lt (unless-le _ _ (c .bit-of .ensures
 returns : tie.Need-returns
 unfolding own
 returns c =
-    let a = c .before .before .before .before .before .before .args in (
+    let s = c .before .before .before .before .before .before in
+    let a = s .args in (
       registered-digit (cut (now (a .links))) (own (now (a .vectors)) (a .k)) (a .a) (suc (a .i)) _ _
           (c .before .before .faulty .ensures .0)
-          (c .bit-of .ensures .0 ∙ ap (λ (x : ℕ). one (held (getD (now (a .vectors)) x 0) (a .k))) (c .before .before .before .across .ensures)),
+          (held-mod _ (a .k) _ (omega (arith, s .pre .1)) (c .bit-of .ensures .0) ∙ ap (λ (x : ℕ). one (held (getD (now (a .vectors)) x 0) (a .k))) (c .before .before .before .across .ensures)),
       unless-le _ _ (c .bit-of .ensures .1),
     )
 

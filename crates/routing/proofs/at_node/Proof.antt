@@ -5,7 +5,7 @@ use native.Mathlib.Omega.{arith}
 use borrow.Author.Needs.{needs}
 use denote.Ref.{now}
 use Rattle.cube.specs.Bits.{weight}
-use Rattle.cube.proofs.Count.{weight-none, weight-some}
+use Rattle.cube.proofs.Count.{weight-le, weight-none, weight-some}
 use Rattle.report.specs.Report.{cut}
 use Rattle.held.specs.Held.{own}
 use Rattle.rules.specs.Rules.{proceed, atNode}
@@ -33,7 +33,10 @@ sub-mask : tie.Need-sub-mask
 sub-mask c = omega (arith, c .weight .ensures, away (c .before))
 
 mask-requires : tie.Need-mask-requires
-mask-requires c κs = search needs
+mask-requires c κs =
+    let s = c .before .before .before .before .before in
+    let p = s .pre in
+    (p .0, p .1, p .2, p .3, omega (arith, c .weight .ensures, weight-le (s .args .n) (s .args .nav .0) (p .4), p .0))
 
 proceed-requires : tie.Need-proceed-requires
 proceed-requires c κs = search needs

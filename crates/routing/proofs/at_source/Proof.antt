@@ -65,7 +65,9 @@ sub-mask : tie.Need-sub-mask
 sub-mask c = omega (arith, away c)
 
 mask-requires : tie.Need-mask-requires
-mask-requires c κs = search needs
+mask-requires c κs =
+    let p = start c .pre in
+    (p .0, p .1, p .2, p .3, omega (arith, near c, p .0))
 
 own-requires : tie.Need-own-requires
 own-requires c κs = search needs
@@ -98,7 +100,10 @@ add-mask c =
     omega (arith, near w, start w .pre .0)
 
 mask-requires-2 : tie.Need-mask-requires-2
-mask-requires-2 c κs = search needs
+mask-requires-2 c κs =
+    let w = c .before .before .before .before .before in
+    let p = start w .pre in
+    (p .0, p .1, p .2, p .3, omega (arith, near w, p .0))
 
 detour-requires : tie.Need-detour-requires
 detour-requires c κs =

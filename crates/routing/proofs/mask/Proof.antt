@@ -22,7 +22,7 @@ returns c =
     let s = c .before .before .before in
     let a = s .args in
     let p = s .pre in
-    ap (λ (x : ℕ). bitAnd x (a .dims)) (c .heard .ensures ∙ heard-at (a .n) (now (a .links)) (now (a .vectors)) (a .a .0) (a .k) (p .0) (p .1) (p .2) (p .3))
+    ap (λ (x : ℕ). bitAnd x (a .dims)) (c .heard .ensures ∙ heard-at (a .n) (now (a .links)) (now (a .vectors)) (a .a .0) (a .k) (p .0) (p .1) (p .2) (p .3) (p .4))
     ∙ pack-and (registered (cut (now (a .links))) (own (now (a .vectors)) (a .k)) (a .a .0)) (a .dims) (a .n)
 
 pub mask-spec : {M : Type 1} → statement M

@@ -6,6 +6,7 @@ use borrow.Author.Needs.{needs}
 use denote.Ref.{now}
 use Rattle.cube.proofs.Table.{written, written-none, written-next, written-all}
 use Rattle.held.specs.Held.{own}
+use Rattle.held.proofs.Held.{held-mod}
 use lib.ListN.{length, length-set}
 use Rattle.cube.specs.Table.{table}
 use Rattle.vectors.specs.Rounds.{digit}
@@ -45,9 +46,10 @@ loop-less c = simp length-set (omega arith)
 loop-again : tie.Need-loop-again Inv-loop μ-loop
 unfolding digit own
 loop-again c =
-    let a = c .before .before .before .before .before .before .args in
+    let s = c .before .before .before .before .before .before in
+    let a = s .args in
     let l = c .before .before .before .loop in
-    (omega arith, simp length-set (omega arith), written-next (digit (now (a .vectors)) (a .k)) (now (a .bytes)) (l .bytes) (l .a) _ (omega arith) (l .inv .2) (c .bit-of .ensures .0))
+    (omega arith, simp length-set (omega arith), written-next (digit (now (a .vectors)) (a .k)) (now (a .bytes)) (l .bytes) (l .a) _ (omega arith) (l .inv .2) (held-mod _ (a .k) _ (omega (arith, s .pre .0)) (c .bit-of .ensures .0)))
 
 same-length : tie.Need-same-length Inv-loop μ-loop
 same-length c = search needs

@@ -1,6 +1,6 @@
 -- `vectors::shown_past` meets its contract.
 use mathlib.Core.Path.{ap, _∙_}
-use Prim.Native.Nat.{suc, _-_}
+use Prim.Native.Nat.{suc, _+_, _-_}
 use native.Mathlib.Numerals.{add-one}
 use native.Mathlib.Omega.{arith}
 use borrow.Author.Needs.{needs}
@@ -10,6 +10,7 @@ use Rattle.cube.specs.Count.{one}
 use Rattle.cube.proofs.Count.{unless-le}
 use Rattle.vectors.specs.Rounds.{shown, masked}
 use Rattle.held.specs.Held.{held}
+use Rattle.held.proofs.Held.{held-mod}
 use Rattle.safety.proofs.Safety.{registered-digit}
 use Rattle.vectors.proofs.Rounds.{registered-all}
 use Rattle.vectors.proofs.shown_past.Statement.{statement}
@@ -33,8 +34,9 @@ mul-result c = record { fits = lt-of-le-of-lt (unless-le _ _ (c .shown .ensures 
 returns : tie.Need-returns
 unfolding masked held
 returns c =
-    let a = c .before .before .before .args in (
-      registered-digit (masked (a .mask)) (shown (now (a .bytes))) (a .a) (suc (a .i)) _ _ (rw add-one at (c .before .bit-of .ensures .0)) (c .shown .ensures .0 ∙ ap one (registered-all (shown (now (a .bytes))) (a .a) (suc (a .i)))),
+    let s = c .before .before .before in
+    let a = s .args in (
+      registered-digit (masked (a .mask)) (shown (now (a .bytes))) (a .a) (suc (a .i)) _ _ (rw add-one at (held-mod _ (a .i + 1) _ (omega (arith, s .pre .0)) (c .before .bit-of .ensures .0))) (c .shown .ensures .0 ∙ ap one (registered-all (shown (now (a .bytes))) (a .a) (suc (a .i)))),
       unless-le _ _ (c .shown .ensures .1),
     )
 
