@@ -167,11 +167,13 @@ pub fn decide(n: u32, status: &[u8], links: &[u16], vectors: &[u16], s: Node, d:
         let R = report n (now (status .entry)) (now (links .entry)) in
         ⌜ deciding.said r ≡ decide R (now (vectors .entry)) (s .0) (d .0) ⌝ }
 {
-    let number = decide_refusal(n, status, links, vectors, s, d);
-    if number != 0 {
-        return Decision::Refused(number);
+    let sized = report::all_sized(n, status.len(), links.len(), vectors.len());
+    let nodes = report::has_node(n, s) & report::has_node(n, d);
+    let work = report::works(status, s) & report::works(status, d);
+    if report::dimension(n) & (sized & (nodes & work)) {
+        return at_source(n, links, vectors, s, s.to(d));
     }
-    at_source(n, links, vectors, s, s.to(d))
+    Decision::Refused(decide_refusal(n, status, links, vectors, s, d))
 }
 
 // What the mask P says at a later node.
@@ -219,11 +221,13 @@ pub fn hop(n: u32, status: &[u8], links: &[u16], vectors: &[u16], a: Node, nav: 
         let R = report n (now (status .entry)) (now (links .entry)) in
         ⌜ hopping.said r ≡ hop R (now (vectors .entry)) (a .0) (nav .0) ⌝ }
 {
-    let number = hop_refusal(n, status, links, vectors, a, nav);
-    if number != 0 {
-        return Step::Refused(number);
+    let sized = report::all_sized(n, status.len(), links.len(), vectors.len());
+    let inside = report::has_node(n, a) & report::has_address(n, nav);
+    let work = report::works(status, a) & report::works(status, a.at(nav));
+    if report::dimension(n) & (sized & (inside & work)) {
+        return at_node(n, links, vectors, a, nav);
     }
-    at_node(n, links, vectors, a, nav)
+    Step::Refused(hop_refusal(n, status, links, vectors, a, nav))
 }
 
 // For every input the contract of `decide` allows one answer.

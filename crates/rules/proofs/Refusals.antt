@@ -77,7 +77,11 @@ module _ (R : Report) (vectors : List ℕ) where
   unfolding hopRefusal chain
   hop-clear a nav e = passes a nav (bitXor a nav) e
 
-  -- and where every test passes, Hop refuses nothing
+  -- and where every test passes, nothing is refused
+  pub decide-none : (s d : ℕ) → Clear R vectors s d d → decideRefusal R vectors s d ≡ 0
+  unfolding decideRefusal
+  decide-none s d c = rw (c .dim, c .sizes, lt-ltb s (2 ^ (R .dim)) (c .node), lt-ltb d (2 ^ (R .dim)) (c .other), c .here, c .there)
+
   pub hop-none : (a nav : ℕ) → Clear R vectors a nav (bitXor a nav) → hopRefusal R vectors a nav ≡ 0
   unfolding hopRefusal
   hop-none a nav c = rw (c .dim, c .sizes, lt-ltb a (2 ^ (R .dim)) (c .node), lt-ltb nav (2 ^ (R .dim)) (c .other), c .here, c .there)
