@@ -6,7 +6,7 @@
 use std::fs::{self, File, OpenOptions};
 use std::io::{BufRead, BufReader, ErrorKind, Write};
 use std::path::{Path, PathBuf};
-use std::process::{exit, Command, Stdio};
+use std::process::{exit, Child, Command, Stdio};
 use std::time::SystemTime;
 
 const PREBUILT: &str = "DERUVAIN_ARCHIVE";
@@ -96,31 +96,37 @@ fn make(root: &Path, why: &str) {
     let mut terminal = OpenOptions::new().write(true).open("/dev/tty").ok();
     let about = "proving the library, about a minute and a half from nothing";
     tell(&mut terminal, &format!("target/staticlib/libderuvain.a {why}: {about}"));
-    let errors = out_folder().join("rt.errors");
-    let kept = File::create(&errors).map_or_else(|_| Stdio::null(), Stdio::from);
+    let verdict = out_folder().join("rt.verdict");
+    let mut rt = start_rt(root, why, &verdict);
+    let mut progress = Vec::new();
+    for line in BufReader::new(rt.stderr.take().expect("it is piped")).lines().map_while(Result::ok) {
+        if line.starts_with("rt: ") {
+            tell(&mut terminal, &line);
+        }
+        progress.push(line);
+    }
+    if !rt.wait().map_or(false, |status| status.success()) {
+        let verdict = fs::read_to_string(verdict).unwrap_or_default();
+        let said: Vec<&str> = verdict.lines().chain(progress.iter().map(String::as_str)).collect();
+        let last = said.len().saturating_sub(30);
+        fail(&format!("`rt staticlib deruvain` failed; it said at the end:\n{}", said[last..].join("\n")));
+    }
+    println!("cargo:warning=target/staticlib/libderuvain.a {why}: `rt staticlib deruvain` proved and made it");
+}
+
+/// Starts `rt`, with its verdict into a file and its progress to be read here.
+fn start_rt(root: &Path, why: &str, verdict: &Path) -> Child {
+    let kept = File::create(verdict).map_or_else(|_| Stdio::null(), Stdio::from);
     let mut rt = Command::new("rt");
-    rt.args(["staticlib", "deruvain"]).current_dir(root).stdout(Stdio::piped()).stderr(kept);
-    let mut rt = match rt.spawn() {
+    rt.args(["staticlib", "deruvain"]).current_dir(root).stdout(kept).stderr(Stdio::piped());
+    match rt.spawn() {
         Ok(rt) => rt,
         Err(error) if error.kind() == ErrorKind::NotFound => fail(&format!(
             "target/staticlib/libderuvain.a {why}, and the command `rt` of the Rattle kit, which proves and makes it, \
              isn't on the PATH. Put the kit on the PATH, or set {PREBUILT} to the path of an archive made elsewhere"
         )),
         Err(error) => fail(&format!("`rt` of the Rattle kit did not start: {error}")),
-    };
-    let mut said = Vec::new();
-    for line in BufReader::new(rt.stdout.take().expect("it is piped")).lines().map_while(Result::ok) {
-        if line.starts_with("rt: ") {
-            tell(&mut terminal, &line);
-        }
-        said.push(line);
     }
-    if !rt.wait().map_or(false, |status| status.success()) {
-        said.extend(fs::read_to_string(errors).unwrap_or_default().lines().map(String::from));
-        let last = said.len().saturating_sub(30);
-        fail(&format!("`rt staticlib deruvain` failed; it said at the end:\n{}", said[last..].join("\n")));
-    }
-    println!("cargo:warning=target/staticlib/libderuvain.a {why}: `rt staticlib deruvain` proved and made it");
 }
 
 /// Writes a line to the terminal, over cargo's line of progress.

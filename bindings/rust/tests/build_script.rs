@@ -79,7 +79,7 @@ impl Repository {
 
 const MAKES: &str = "[ \"$*\" = 'staticlib deruvain' ] || exit 2
 /bin/mkdir -p target/staticlib && echo made >target/staticlib/libderuvain.a
-echo 'rt: deruvain proved (15 s)'";
+echo 'rt: deruvain proved (15 s)' >&2";
 
 #[test]
 fn without_rt_the_kit_is_named() {
