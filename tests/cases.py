@@ -12,10 +12,12 @@ A case is a line of `stdin`, and its answer the line of `stdout` with the same n
 A list is its length, then its numbers; those that are left out are 99, as all lent memory is before a job but Update's. What each job takes
 stands at the head of crates/cases_run/src/main.rt. Lent memory is printed with the place behind it, which is 99; `unchanged` if all is 99.
 """
+import itertools
 import os
 import struct
 import sys
 
+sys.dont_write_bytecode = True
 import rules
 from rules import LENT
 
@@ -369,14 +371,12 @@ def compare(name, lines):
     """Tells the first line of a file that isn't as wanted."""
     path = os.path.join(FOLDER, name)
     found = open(path).read().split("\n") if os.path.exists(path) else []
-    for number, (want, have) in enumerate(zip(lines + [""], found + ["(the file ends)"] * (len(lines) + 1))):
+    for number, (want, have) in enumerate(itertools.zip_longest(lines + [""], found, fillvalue=""), 1):
         if want != have:
             at = len(os.path.commonprefix([want, have]))
-            start = max(0, at - 60)
-            print("cases: crates/cases_run/%s, line %d differs at column %d" % (name, number + 1, at + 1))
-            sys.exit("  wanted: %s\n  found:  %s" % (want[start : at + 60] or "(the file ends)", have[start : at + 60]))
-    if len(found) > len(lines) + 1:
-        sys.exit("cases: crates/cases_run/%s has lines after line %d" % (name, len(lines)))
+            near = slice(max(0, at - 60), at + 60)
+            print("cases: crates/cases_run/%s, line %d differs from column %d on" % (name, number, at + 1))
+            sys.exit("  wanted: %s\n  found:  %s" % (want[near] or "(nothing)", have[near] or "(nothing)"))
 
 
 for group in (addresses, fills, decisions, hops, journeys, pairs, records, damage, cubes, ages, log_refusals, updates):

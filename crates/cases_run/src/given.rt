@@ -19,7 +19,7 @@ struct Found {
     end: usize,
 }
 
-// The number that the digits from a place of a line on make; any from 2^32 on is 2^32.
+// The number that the digits from a place of a line on make, 2^32 for any that is not below it.
 fn digits(line: &[u8], from: usize) -> Found
     requires { ⌜ from ≤ length (now line) ⌝ }
     ensures { λ r. ⌜ (r .value ≤ 4294967296) × (r .end ≤ length (now (line .entry))) ⌝ }
@@ -90,7 +90,7 @@ fn numbers(line: &[u8], at: usize, head: u8, most: u16) -> List
     requires { ⌜ at ≤ length (now line) ⌝ }
     ensures { λ r. ⌜ (8192 ≡ length (r .values)) × (r .size < 8192) × (r .end ≤ length (now (line .entry))) ⌝ }
 {
-    let mut values = [99u16; 8192];
+    let mut values = [say::LENT; 8192];
     let from = headed(line, at, head);
     if from == 0 {
         return List {

@@ -5,8 +5,9 @@
 //     TITLE: JOB N A B b LIST l LIST v LIST m LIST w LIST
 //     TITLE: ANSWER, NAME OF LENT MEMORY WORDS
 //
-// JOB is a letter. Numbers are decimal, one space apart; B, or A and B, may be left out for 0. A list is its length, then its numbers; those that
-// are left out are 99. An empty list may be left out with its letter. The jobs:
+// Numbers are decimal, one space apart: N is below 2^32, all others below 2^16. The last of N, A and B may be left out if they are 0.
+// A list is its length, at most 8191, then its numbers; those that are left out are 99. An empty list may be left out with its letter.
+// JOB is a letter:
 //
 //     a N S D      the relative address of nodes S and D with dimension N crossed, its weight, and where it leads from S
 //     f N          Fill: b status, l links, v vectors (lent)

@@ -115,7 +115,7 @@ fn word(value: u16) {
     number(b" ", value as u64);
 }
 
-// Prints words up to a place.
+// Prints words up to a place, and that place.
 fn words(values: &[u16], last: usize) {
     let mut i: usize = 0;
     while i < values.len() {
@@ -156,23 +156,23 @@ fn wide(bytes: &[u8; 8192]) -> [u16; 8192] {
 pub(crate) fn memory(
     job: u8,
     vectors: &[u16; 8192],
-    k: usize,
+    i: usize,
     more: &[u8; 8192],
-    p: usize,
+    j: usize,
     path: &[u16; 8192],
-    q: usize,
+    k: usize,
 ) {
     match job {
-        b'f' => left(b", vectors", vectors, k),
+        b'f' => left(b", vectors", vectors, i),
         b'j' => {
-            left(b", vectors", vectors, k);
-            left(b", path", path, q);
+            left(b", vectors", vectors, i);
+            left(b", path", path, k);
         },
         b'o' => {
-            left(b", status", &wide(more), p);
-            left(b", links", vectors, k);
+            left(b", status", &wide(more), j);
+            left(b", links", vectors, i);
         },
-        b'r' | b'u' => left(b", status", &wide(more), p),
+        b'r' | b'u' => left(b", status", &wide(more), j),
         _ => {},
     }
 }

@@ -2,3 +2,4 @@ pub mod Rules
 pub mod Refusals
 pub mod Decide
 pub mod Hop
+pub mod Unread
