@@ -94,7 +94,7 @@ fn newest_in(path: &Path) -> Option<SystemTime> {
 /// meanwhile is told to the terminal itself, if there is one.
 fn make(root: &Path, why: &str) {
     let mut terminal = OpenOptions::new().write(true).open("/dev/tty").ok();
-    let about = "proving the library, one to two minutes from nothing";
+    let about = "proving the library, about two minutes from nothing";
     tell(&mut terminal, &format!("target/staticlib/libderuvain.a {why}: {about}"));
     let verdict = out_folder().join("rt.verdict");
     let mut rt = start_rt(root, why, &verdict);
