@@ -12,11 +12,14 @@
  * reaches every working node at distance k by a shortest path.
  *
  * Every slice is a pointer and the number of its elements, all of which have some value. The
- * pointer is never null, not even with length 0, and is aligned for its elements. A slice that a
- * job writes overlaps no other.
+ * pointer is never null, not even with length 0, and is aligned for its elements: a uint16_t
+ * slice starts at an even address. A slice that a job writes (its pointer is not const) overlaps
+ * no other slice of the call. Slices that are only read may overlap each other.
  * Any other input is answered: a job refuses what it cannot use, by the lowest number that
- * applies (deruvain_open and deruvain_refresh have orders of their own). The refusals 1 to 6 and
- * 10 to 12 change no memory.
+ * applies (deruvain_open, deruvain_refresh and deruvain_update have orders of their own). The
+ * refusals 1 to 6 and 10 to 12 change no memory. No function keeps a pointer, allocates, or
+ * touches memory other than its slices, so calls from several threads need no lock as long as no
+ * slice that one of them writes is used by another.
  *
  * Link with libderuvain.a, which `rt staticlib deruvain` writes to target/staticlib/.
  */
@@ -30,12 +33,30 @@
 extern "C" {
 #endif
 
+/* The version of this header, of the Rust crate and of the programs. */
+#define DERUVAIN_VERSION "1.0.0"
+
+/* The largest cube: its dimension, its nodes, the bytes of its record. */
+#define DERUVAIN_LARGEST_N 10
+#define DERUVAIN_LARGEST_NODES 1024
+#define DERUVAIN_LARGEST_RECORD 3077
+
+/* Status bytes. 1 to 4 are working boards, 5 to 253 late ones. */
+#define DERUVAIN_BYTE_SILENT 0         /* never heard */
+#define DERUVAIN_BYTE_HEARD 1          /* heard in the present sweep; one more for each sweep since */
+#define DERUVAIN_BYTE_OLDEST_WORKING 4 /* heard three sweeps ago */
+#define DERUVAIN_BYTE_FIRST_LATE 5     /* heard four sweeps ago */
+#define DERUVAIN_BYTE_OLDEST_LATE 253  /* heard 252 sweeps ago, or before */
+#define DERUVAIN_BYTE_DOWN 254         /* down, by its own word */
+#define DERUVAIN_BYTE_EMPTY 255        /* empty slot */
+
 /* Why a job refused. */
 enum deruvain_refusal {
     DERUVAIN_ACCEPTED = 0,
     /* n not 1 to 10 */
     DERUVAIN_REFUSED_DIMENSION = 1,
-    /* report or vectors not 2^n long; picks under n+1; path under n+2; at open a lent slice under 2^n */
+    /* report or vectors not 2^n long; picks under n+1; path under n+2; at open a lent slice under 2^n;
+       at restate a record without room for the status bytes */
     DERUVAIN_REFUSED_LENGTH = 2,
     /* some link word has a bit at weight 2^n or above */
     DERUVAIN_REFUSED_LINK_WORD = 3,
@@ -59,13 +80,13 @@ enum deruvain_refusal {
     DERUVAIN_REFUSED_LOG_NODE = 12
 };
 
-/* The class of a status byte. Only working boards are nonfaulty. */
+/* The class of a status byte: no byte itself. Only working boards are nonfaulty. */
 enum deruvain_board_class {
-    DERUVAIN_SILENT = 0,  /* 0: never heard */
-    DERUVAIN_WORKING = 1, /* 1 to 4: heard in the present sweep, in the one before, and so on */
-    DERUVAIN_LATE = 2,    /* 5 to 253 */
-    DERUVAIN_DOWN = 3,    /* 254: down, by its own word */
-    DERUVAIN_EMPTY = 4    /* 255: empty slot */
+    DERUVAIN_CLASS_SILENT = 0,  /* the byte 0 */
+    DERUVAIN_CLASS_WORKING = 1, /* the bytes 1 to 4 */
+    DERUVAIN_CLASS_LATE = 2,    /* the bytes 5 to 253 */
+    DERUVAIN_CLASS_DOWN = 3,    /* the byte 254 */
+    DERUVAIN_CLASS_EMPTY = 4    /* the byte 255 */
 };
 
 /* What deruvain_decide and deruvain_journey accepted. H is the distance of the two ends. */
@@ -96,11 +117,33 @@ struct deruvain_opened {
     uint32_t n;
 };
 
-/* The answer of refresh. After a refusal skipped is 0. */
+/* The answer of refresh and update. After a refusal skipped is 0. */
 struct deruvain_refreshed {
     uint32_t refusal;
     size_t skipped; /* how many of the log's records are from the future */
 };
+
+/* What a refusal's number means, for a person. It does not call the library. */
+static inline const char *deruvain_refusal_text(uint32_t number)
+{
+    switch (number) {
+    case 0: return "accepted";
+    case 1: return "n is not 1 to 10";
+    case 2:
+        return "the status bytes, link words or vectors are not 2^n, or picks, path or a lent slice are too short";
+    case 3: return "a link word has a bit at weight 2^n or above";
+    case 4: return "a node or a relative address is not below 2^n";
+    case 5: return "the source, or the node at a hop, is not working";
+    case 6: return "the destination is not working";
+    case 7: return "there is no route by the rules";
+    case 8: return "the source's own bit promises a path, and no neighbour bears it out";
+    case 9: return "a later node has no dimension to offer";
+    case 10: return "the record is malformed";
+    case 11: return "a record of the log is cut short, or of another length or kind";
+    case 12: return "a record of the log has a node that is not below 2^n";
+    default: return "there is no such refusal";
+    }
+}
 
 /* The class of a status byte, an enum deruvain_board_class. */
 uint32_t deruvain_class(uint8_t byte);
@@ -155,7 +198,8 @@ struct deruvain_answer deruvain_journey(uint32_t n,
 /*
  * Reads a record: length (2 bytes, the bytes after this field), kind (2 bytes, here 1), n (1 byte),
  * 2^n status bytes, 2^n link words, all little-endian. Writes the first 2^n places of status and
- * links; later places stay unchanged. 1024 places in each are enough for any record.
+ * links; later places stay unchanged. DERUVAIN_LARGEST_NODES places in each are enough for any
+ * record.
  * Refuses by 10, 1, 10, 2, 3, in this order.
  */
 struct deruvain_opened deruvain_open(const uint8_t *bytes, size_t bytes_len,
@@ -174,6 +218,26 @@ struct deruvain_opened deruvain_open(const uint8_t *bytes, size_t bytes_len,
 struct deruvain_refreshed deruvain_refresh(uint32_t n, uint16_t sweep,
                                            const uint8_t *log, size_t log_len,
                                            uint8_t *status, size_t status_len);
+
+/*
+ * deruvain_refresh for a log that comes in parts, each of whole records of 8 bytes. Make all status
+ * bytes 0 before the first part; each part then adds what it says, and of two records of a node the
+ * younger one counts. The sum of what is skipped, and the status bytes after the last part, are
+ * those that deruvain_refresh gives for the whole log.
+ * Refuses as deruvain_refresh does. The status bytes are then as the earlier parts left them.
+ */
+struct deruvain_refreshed deruvain_update(uint32_t n, uint16_t sweep,
+                                          const uint8_t *part, size_t part_len,
+                                          uint8_t *status, size_t status_len);
+
+/*
+ * Puts status bytes over those of a record, from its sixth byte on: a record that deruvain_open
+ * reads, with 2^n status bytes, is then one that it reads with the same n and link words and these
+ * status bytes. Nothing but the length is looked at, so open the record first.
+ * Gives the refusal number, 0 for done: 2 if bytes_len is under 5 + status_len.
+ */
+uint32_t deruvain_restate(uint8_t *bytes, size_t bytes_len,
+                          const uint8_t *status, size_t status_len);
 
 #ifdef __cplusplus
 }

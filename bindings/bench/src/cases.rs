@@ -4,7 +4,7 @@ use compare::generate::record;
 use compare::input::Memory;
 use compare::logs;
 use deruvain_model::random::Random;
-use deruvain_model::{Answer, Door, Model};
+use deruvain_model::{Answer, Jobs, Model};
 use std::cell::RefCell;
 use std::hint::black_box;
 
@@ -102,31 +102,31 @@ impl Case {
     }
 
     /// One batch of calls, over memory that is not cleared in between. Gives something of every answer.
-    pub fn batch(&self, job: Job, door: &dyn Door) -> u32 {
+    pub fn batch(&self, job: Job, library: &dyn Jobs) -> u32 {
         let lent = &mut *self.lent.borrow_mut();
         let n = black_box(self.setting.n);
         let (status, links, vectors) = (&self.status, &self.links, &self.vectors);
         let sum = |answer: Answer| answer.refusal ^ answer.kind ^ answer.mask ^ answer.hops;
         let pairs = self.pairs.iter().copied();
         match job {
-            Job::Fill => door.fill(n, status, links, &mut lent.vectors),
-            Job::Decide => pairs.map(|(s, d)| sum(door.decide(n, status, links, vectors, s, d))).sum(),
-            Job::Hop => pairs.map(|(s, d)| sum(door.hop(n, status, links, vectors, s, s ^ d))).sum(),
+            Job::Fill => library.fill(n, status, links, &mut lent.vectors),
+            Job::Decide => pairs.map(|(s, d)| sum(library.decide(n, status, links, vectors, s, d))).sum(),
+            Job::Hop => pairs.map(|(s, d)| sum(library.hop(n, status, links, vectors, s, s ^ d))).sum(),
             Job::Journey => pairs
                 .take(JOURNEYS)
-                .map(|(s, d)| sum(door.journey(n, status, links, &mut lent.vectors, &PICKS, &mut lent.path, s, d)))
+                .map(|(s, d)| sum(library.journey(n, status, links, &mut lent.vectors, &PICKS, &mut lent.path, s, d)))
                 .sum(),
-            Job::Open => door.open(&self.record, &mut lent.status, &mut lent.links).n,
+            Job::Open => library.open(&self.record, &mut lent.status, &mut lent.links).n,
             Job::Refresh => {
-                let refreshed = door.refresh(n, SWEEPS[3], &self.log, &mut lent.status);
+                let refreshed = library.refresh(n, SWEEPS[3], &self.log, &mut lent.status);
                 refreshed.refusal ^ refreshed.skipped as u32
             }
         }
     }
 
     /// Both sides must give the same before they are timed.
-    pub fn check(&self, job: Job, ours: &dyn Door, plain: &dyn Door) {
-        let after = |door: &dyn Door| (self.batch(job, door), self.lent.borrow().clone());
+    pub fn check(&self, job: Job, ours: &dyn Jobs, plain: &dyn Jobs) {
+        let after = |library: &dyn Jobs| (self.batch(job, library), self.lent.borrow().clone());
         assert!(after(ours) == after(plain), "{} differs", job.name());
     }
 }

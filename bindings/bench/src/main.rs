@@ -1,4 +1,4 @@
-//! `bench [--quick] [PICTURE.svg]`: times every job through the C door and in plain Rust.
+//! `bench [--quick] [PICTURE.svg]`: times every job through the C interface and in plain Rust.
 //!
 //! The two take turns in one run, over the same inputs, and the shortest time of each counts.
 

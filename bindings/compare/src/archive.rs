@@ -1,7 +1,7 @@
-//! The C door of the proved archive.
+//! The C interface of the proved archive.
 
 use deruvain::raw;
-use deruvain_model::{Answer, Door, Opened, Refreshed};
+use deruvain_model::{Answer, Jobs, Opened, Refreshed};
 
 pub struct Archive;
 
@@ -9,7 +9,11 @@ fn answer(given: raw::Answer) -> Answer {
     Answer { refusal: given.refusal, kind: given.kind, mask: given.mask, hops: given.hops }
 }
 
-impl Door for Archive {
+fn refreshed(given: raw::Refreshed) -> Refreshed {
+    Refreshed { refusal: given.refusal, skipped: given.skipped }
+}
+
+impl Jobs for Archive {
     fn class(&self, byte: u8) -> u32 {
         raw::class(byte)
     }
@@ -46,7 +50,14 @@ impl Door for Archive {
     }
 
     fn refresh(&self, n: u32, sweep: u16, log: &[u8], status: &mut [u8]) -> Refreshed {
-        let refreshed = raw::refresh(n, sweep, log, status);
-        Refreshed { refusal: refreshed.refusal, skipped: refreshed.skipped }
+        refreshed(raw::refresh(n, sweep, log, status))
+    }
+
+    fn update(&self, n: u32, sweep: u16, part: &[u8], status: &mut [u8]) -> Refreshed {
+        refreshed(raw::update(n, sweep, part, status))
+    }
+
+    fn restate(&self, bytes: &mut [u8], status: &[u8]) -> u32 {
+        raw::restate(bytes, status)
     }
 }

@@ -1,8 +1,8 @@
-//! Doors with one flaw each, to show that the comparison finds it.
+//! Libraries with one flaw each, to show that the comparison finds it.
 
 use crate::logs;
 use deruvain_model::model::{class, WORKING};
-use deruvain_model::{Answer, Door, Opened, Plain, Refreshed};
+use deruvain_model::{Answer, Jobs, Opened, Plain, Refreshed};
 
 #[derive(Clone, Copy, Debug, PartialEq, Eq)]
 pub enum Flaw {
@@ -55,10 +55,23 @@ pub enum Flaw {
     LogLeavesTheSilent,
     LogCutEndIgnored,
     LogLengthWraps,
+    UpdateStartsAnew,
+    UpdateLastPartWins,
+    UpdateOlderPartWins,
+    UpdateSilenceWins,
+    UpdateForgetsOnRefusal,
+    UpdateLosesItsCount,
+    RestateOneTooEarly,
+    RestateNeedsOneMore,
+    RestateWritesWhatFits,
+    RestateSaysDone,
+    RestateClearsTheLinks,
+    RestateLengthWraps,
+    RestateAsksForARecord,
 }
 
 impl Flaw {
-    pub const ALL: [Flaw; 48] = [
+    pub const ALL: [Flaw; 61] = [
         Flaw::DimensionWraps,
         Flaw::LengthsWrap,
         Flaw::FifthSweepWorks,
@@ -107,6 +120,19 @@ impl Flaw {
         Flaw::LogLeavesTheSilent,
         Flaw::LogCutEndIgnored,
         Flaw::LogLengthWraps,
+        Flaw::UpdateStartsAnew,
+        Flaw::UpdateLastPartWins,
+        Flaw::UpdateOlderPartWins,
+        Flaw::UpdateSilenceWins,
+        Flaw::UpdateForgetsOnRefusal,
+        Flaw::UpdateLosesItsCount,
+        Flaw::RestateOneTooEarly,
+        Flaw::RestateNeedsOneMore,
+        Flaw::RestateWritesWhatFits,
+        Flaw::RestateSaysDone,
+        Flaw::RestateClearsTheLinks,
+        Flaw::RestateLengthWraps,
+        Flaw::RestateAsksForARecord,
     ];
 }
 
@@ -133,7 +159,7 @@ impl Flawed {
         self.0 == flaw
     }
 
-    /// The status bytes as this door takes them.
+    /// The status bytes as this library takes them.
     fn status(&self, status: &[u8]) -> Vec<u8> {
         let taken = |byte: &u8| match byte {
             5 if self.has(Flaw::FifthSweepWorks) => 4,
@@ -154,7 +180,7 @@ impl Flawed {
         }
     }
 
-    /// The link words as this door takes them: with the marks that count, and those above n.
+    /// The link words as this library takes them: with the marks that count, and those above n.
     fn links(&self, n: u32, status: &[u8], links: &[u16]) -> Vec<u16> {
         let left_out = |a| (0..n.min(10)).filter(|&i| !self.counts(status, links, a, i)).map(|i| 1 << i).sum::<u16>();
         links.iter().enumerate().map(|(a, word)| word & !left_out(a)).collect()
@@ -281,9 +307,22 @@ impl Flawed {
             _ => held.min(next),
         }
     }
+
+    /// Which byte of a node counts, of what earlier parts of a log gave and what the next part gives.
+    fn of_parts(&self, held: u8, next: u8) -> u8 {
+        match self.0 {
+            Flaw::UpdateStartsAnew => next,
+            Flaw::UpdateLastPartWins if next != 0 => next,
+            Flaw::UpdateOlderPartWins => held.max(next),
+            Flaw::UpdateSilenceWins => held.min(next),
+            _ if next == 0 => held,
+            _ if held == 0 => next,
+            _ => held.min(next),
+        }
+    }
 }
 
-impl Door for Flawed {
+impl Jobs for Flawed {
     fn class(&self, byte: u8) -> u32 {
         class(self.status(&[byte])[0])
     }
@@ -403,5 +442,41 @@ impl Door for Flawed {
             status.copy_from_slice(&lost);
         }
         Refreshed { refusal, skipped: if self.has(Flaw::LogCountedWhenRefused) { skipped } else { 0 } }
+    }
+    fn update(&self, n: u32, sweep: u16, part: &[u8], status: &mut [u8]) -> Refreshed {
+        let held = status.to_vec();
+        let mut updated = self.refresh(n, sweep, part, status);
+        match updated.refusal {
+            0 => {
+                for (byte, held) in status.iter_mut().zip(held) {
+                    *byte = self.of_parts(held, *byte);
+                }
+            }
+            11.. if self.has(Flaw::UpdateForgetsOnRefusal) => status.fill(0),
+            _ => {}
+        }
+        if self.has(Flaw::UpdateLosesItsCount) {
+            updated.skipped = 0;
+        }
+        updated
+    }
+
+    fn restate(&self, bytes: &mut [u8], status: &[u8]) -> u32 {
+        let status = if self.has(Flaw::RestateLengthWraps) { &status[..status.len() % 65_536] } else { status };
+        let from = if self.has(Flaw::RestateOneTooEarly) { 4 } else { 5 };
+        if bytes.len() < 5 + status.len() + self.has(Flaw::RestateNeedsOneMore) as usize {
+            if self.has(Flaw::RestateWritesWhatFits) {
+                bytes.iter_mut().skip(5).zip(status).for_each(|(byte, new)| *byte = *new);
+            }
+            return if self.has(Flaw::RestateSaysDone) { 0 } else { 2 };
+        }
+        if self.has(Flaw::RestateAsksForARecord) && bytes[2..4] != [1, 0] {
+            return 10;
+        }
+        bytes[from..from + status.len()].copy_from_slice(status);
+        if self.has(Flaw::RestateClearsTheLinks) {
+            bytes[5 + status.len()..].fill(0);
+        }
+        0
     }
 }

@@ -4,7 +4,7 @@ use crate::input::{Input, Job, Memory};
 use crate::logs;
 use deruvain_model::model::{class, WORKING};
 use deruvain_model::random::Random;
-use deruvain_model::{Door, Model};
+use deruvain_model::{Jobs, Model};
 
 /// Status bytes at the edges of the classes.
 const EDGES: [u8; 12] = [0, 1, 2, 3, 4, 5, 6, 128, 252, 253, 254, 255];
@@ -19,13 +19,15 @@ const DIMENSIONS: [(u32, usize); 10] =
 
 /// One call of one of the jobs.
 pub fn input(random: &mut Random) -> Input {
-    match random.below(24) {
+    match random.below(28) {
         0..=3 => fill(random),
         4..=8 => decide(random),
         9..=12 => hop(random),
         13..=16 => journey(random),
         17..=19 => open(random),
-        _ => refresh(random),
+        20..=23 => with_log(random, Job::Refresh),
+        24..=26 => with_log(random, Job::Update),
+        _ => restate(random),
     }
 }
 
@@ -73,7 +75,8 @@ fn journey(random: &mut Random) -> Input {
     damaged_lengths(random, input)
 }
 
-fn refresh(random: &mut Random) -> Input {
+/// Refresh, or Update with status bytes as earlier parts may have left them.
+fn with_log(random: &mut Random, job: Job) -> Input {
     let n = dimension(random);
     let size = size(random, n);
     let sweep = match random.below(3) {
@@ -82,12 +85,21 @@ fn refresh(random: &mut Random) -> Input {
         _ => random.below(8) as u16,
     };
     let bytes = logs::log(random, size, sweep);
-    let mut status = (0..size).map(|_| random.byte()).collect();
+    let mut status = (0..size).map(|_| held(random)).collect();
     while random.once_in(12) {
         resize(random, &mut status, 1);
     }
     let memory = Memory { bytes, status, ..Memory::default() };
-    Input { job: Job::Refresh, n, memory, first: sweep, second: 0 }
+    Input { job, n, memory, first: sweep, second: 0 }
+}
+
+/// A status byte before a log is read.
+fn held(random: &mut Random) -> u8 {
+    match random.below(3) {
+        0 => 0,
+        1 => random.of(&EDGES),
+        _ => random.byte(),
+    }
 }
 
 /// 2^n, or what it is if n is cut to five bits, or something.
@@ -266,6 +278,22 @@ fn open(random: &mut Random) -> Input {
     input.memory.status = (0..lent_length(random, size)).map(|_| random.byte()).collect();
     input.memory.links = (0..lent_length(random, size)).map(|_| random.word()).collect();
     input.n = 0;
+    input
+}
+
+fn restate(random: &mut Random) -> Input {
+    let mut input = open(random);
+    input.job = Job::Restate;
+    input.memory.links.clear();
+    if random.once_in(4) {
+        let most = input.memory.bytes.len();
+        let fitting = most.saturating_sub(5);
+        let length = random.of(&[0, fitting.saturating_sub(1), fitting, fitting + 1, most, most + 1]);
+        input.memory.status.resize(length, 3);
+    }
+    if random.once_in(50) {
+        resize(random, &mut input.memory.status, 2);
+    }
     input
 }
 

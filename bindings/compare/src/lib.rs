@@ -1,4 +1,4 @@
-//! The same inputs through a door and through the model, and all that comes back compared.
+//! The same inputs through a library and through the model, and all that comes back compared.
 
 #[cfg(feature = "archive")]
 pub mod archive;

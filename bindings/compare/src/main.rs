@@ -1,20 +1,20 @@
-//! `compare [COUNT] [SEED]`: COUNT inputs through the C door and through the model.
+//! `compare [COUNT] [SEED]`: COUNT inputs through the C interface and through the model.
 //!
-//! `--plain` puts plain Rust in the door's place; `--self-test` shows that planted flaws are found.
+//! `--plain` puts plain Rust in the library's place; `--self-test` shows that planted flaws are found.
 
 use compare::flawed::{Flaw, Flawed};
 use compare::input::Job;
 use compare::run::{compare, explain, Outcome};
-use deruvain_model::{Door, Plain};
+use deruvain_model::{Jobs, Plain};
 use std::process::ExitCode;
 
 const COUNT: usize = 300_000;
 const SEED: u64 = 1;
 
 #[cfg(feature = "archive")]
-const DOOR: &dyn Door = &compare::archive::Archive;
+const LIBRARY: &dyn Jobs = &compare::archive::Archive;
 #[cfg(not(feature = "archive"))]
-const DOOR: &dyn Door = &Plain;
+const LIBRARY: &dyn Jobs = &Plain;
 
 struct Asked {
     count: usize,
@@ -46,7 +46,7 @@ fn main() -> ExitCode {
     };
     let passed = match asked.self_test {
         true => self_test(asked.count, asked.seed),
-        false => report(if asked.plain { &Plain } else { DOOR }, asked.count, asked.seed),
+        false => report(if asked.plain { &Plain } else { LIBRARY }, asked.count, asked.seed),
     };
     if passed {
         ExitCode::SUCCESS
@@ -56,15 +56,15 @@ fn main() -> ExitCode {
 }
 
 /// Compares, prints what came of it, and says whether all was the same.
-fn report(door: &dyn Door, count: usize, seed: u64) -> bool {
-    let outcome = compare(door, count, seed, 1000);
+fn report(library: &dyn Jobs, count: usize, seed: u64) -> bool {
+    let outcome = compare(library, count, seed, 1000);
     for job in Job::ALL {
         println!("{}", outcome.tallies[job as usize].line(job));
     }
     println!("{}", outcome.dimensions_line());
     for job in Job::ALL {
         if let Some(input) = outcome.differing.iter().find(|input| input.job == job) {
-            print!("\nthe smallest difference found in {}", explain(door, input));
+            print!("\nthe smallest difference found in {}", explain(library, input));
         }
     }
     last_line(&outcome, seed)

@@ -5,7 +5,7 @@ use crate::input::{call, Input, Job};
 use crate::shrink::smallest;
 use crate::tell;
 use deruvain_model::random::Random;
-use deruvain_model::{Answer, Door, Model};
+use deruvain_model::{Answer, Jobs, Model};
 
 /// What came of one job: how many inputs, and how many of each answer.
 #[derive(Clone, Default)]
@@ -17,16 +17,16 @@ pub struct Tally {
 
 pub struct Outcome {
     pub inputs: usize,
-    pub tallies: [Tally; 7],
+    pub tallies: [Tally; Job::COUNT],
     /// How many inputs had each n; from 12 on in the last place.
     pub dimensions: [usize; 13],
     /// The inputs that showed a difference.
     pub differing: Vec<Input>,
 }
 
-/// Puts inputs through the door and the model: each byte through Class, the rest at random. Stops
+/// Puts inputs through the library and the model: each byte through Class, the rest at random. Stops
 /// early after `enough` differences.
-pub fn compare(door: &dyn Door, count: usize, seed: u64, enough: usize) -> Outcome {
+pub fn compare(library: &dyn Jobs, count: usize, seed: u64, enough: usize) -> Outcome {
     let mut random = Random::new(seed);
     let mut outcome = Outcome { inputs: 0, tallies: Default::default(), dimensions: [0; 13], differing: Vec::new() };
     while outcome.inputs < count && outcome.differing.len() < enough {
@@ -40,7 +40,7 @@ pub fn compare(door: &dyn Door, count: usize, seed: u64, enough: usize) -> Outco
         }
         let expected = call(&Model, &input);
         outcome.tallies[input.job as usize].add(&expected.answer);
-        if call(door, &input) != expected {
+        if call(library, &input) != expected {
             outcome.differing.push(input);
         }
     }
@@ -48,9 +48,9 @@ pub fn compare(door: &dyn Door, count: usize, seed: u64, enough: usize) -> Outco
 }
 
 /// The smallest input found that shows the difference, as text.
-pub fn explain(door: &dyn Door, input: &Input) -> String {
-    let input = smallest(input.clone(), &|input| call(door, input) != call(&Model, input));
-    tell::difference(&input, &call(door, &input), &call(&Model, &input))
+pub fn explain(library: &dyn Jobs, input: &Input) -> String {
+    let input = smallest(input.clone(), &|input| call(library, input) != call(&Model, input));
+    tell::difference(&input, &call(library, &input), &call(&Model, &input))
 }
 
 impl Outcome {

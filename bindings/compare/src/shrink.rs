@@ -45,8 +45,8 @@ impl Shrinker<'_> {
     fn lower_n(&mut self) -> bool {
         let lower = match self.best.job {
             Job::Class => return false,
-            Job::Open => half_of_record,
-            Job::Refresh => half_of_log,
+            Job::Open | Job::Restate => half_of_record,
+            Job::Refresh | Job::Update => half_of_log,
             _ => half,
         };
         let halves = (0..10).flat_map(|i| [(i, false), (i, true)]);
@@ -57,7 +57,8 @@ impl Shrinker<'_> {
         self.shorten_one(|memory| &mut memory.bytes);
         match self.best.job {
             Job::Open => self.shorten_record(),
-            Job::Refresh => self.fewer_records(),
+            Job::Restate => self.shorten_record_and_status(),
+            Job::Refresh | Job::Update => self.fewer_records(),
             _ => {}
         }
         self.shorten_one(|memory| &mut memory.status);
@@ -82,6 +83,20 @@ impl Shrinker<'_> {
             while self.keep_if_differs(|next| {
                 cut_off(&mut next.memory.bytes, cut);
                 set_length(&mut next.memory.bytes);
+            }) {}
+            cut /= 2;
+        }
+    }
+
+    /// The record and the status bytes by the same length, so that these go on to fit or not.
+    fn shorten_record_and_status(&mut self) {
+        let mut cut = self.best.memory.status.len();
+        while cut > 0 {
+            while self.keep_if_differs(|next| {
+                if next.memory.status.len() >= cut {
+                    cut_off(&mut next.memory.bytes, cut);
+                    cut_off(&mut next.memory.status, cut);
+                }
             }) {}
             cut /= 2;
         }
@@ -147,7 +162,7 @@ impl Shrinker<'_> {
     }
 
     fn plain_ends(&mut self) {
-        if self.best.job == Job::Refresh {
+        if self.best.job.has_log() {
             self.keep_if_differs(first_record_in_sweep_0);
         }
         for bit in (0..16).rev() {

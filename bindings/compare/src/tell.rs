@@ -10,13 +10,13 @@ pub const KINDS: [&str; 4] = ["home", "assured", "lent", "detour"];
 pub const STEPS: [&str; 2] = ["arrived", "offered"];
 
 /// One call in full: what went in, what either side gave, and where memory differs.
-pub fn difference(input: &Input, door: &Output, model: &Output) -> String {
+pub fn difference(input: &Input, library: &Output, model: &Output) -> String {
     let mut text = call(input);
-    let _ = writeln!(text, "  the model: {}", answer(input.job, &model.answer));
-    let _ = writeln!(text, "  the door:  {}", answer(input.job, &door.answer));
-    memory(&mut text, input.job, &door.memory, &model.memory);
-    if !door.margins_kept {
-        text += "  the door wrote outside the slices\n";
+    let _ = writeln!(text, "  the model:   {}", answer(input.job, &model.answer));
+    let _ = writeln!(text, "  the library: {}", answer(input.job, &library.answer));
+    memory(&mut text, input.job, &library.memory, &model.memory);
+    if !library.margins_kept {
+        text += "  the library wrote outside the slices\n";
     }
     text
 }
@@ -26,23 +26,23 @@ fn call(input: &Input) -> String {
     let mut text = input.job.name().to_string();
     match input.job {
         Job::Class => text += &format!(" of the byte {}\n", input.first),
-        Job::Open => text += "\n",
-        Job::Refresh => text += &format!(", n = {}, sweep {}\n", input.n, input.first),
+        Job::Open | Job::Restate => text += "\n",
+        Job::Refresh | Job::Update => text += &format!(", n = {}, sweep {}\n", input.n, input.first),
         _ => text += &format!(", n = {}\n", input.n),
     }
-    if input.job == Job::Open {
+    if input.job.has_record() {
         let _ = writeln!(text, "  record: {} bytes: {}", memory.bytes.len(), hex(&memory.bytes));
     }
-    if input.job == Job::Refresh {
+    if input.job.has_log() {
         let _ = writeln!(text, "  log: {} bytes: {}", memory.bytes.len(), log(&memory.bytes));
     }
     if input.job != Job::Class {
         slice(&mut text, "status", &memory.status, 1);
     }
-    if !matches!(input.job, Job::Class | Job::Refresh) {
+    if !matches!(input.job, Job::Class | Job::Refresh | Job::Update | Job::Restate) {
         slice(&mut text, "links", &memory.links, 0);
     }
-    if !matches!(input.job, Job::Class | Job::Open | Job::Refresh) {
+    if matches!(input.job, Job::Fill | Job::Decide | Job::Hop | Job::Journey) {
         slice(&mut text, "vectors", &memory.vectors, 0);
     }
     if input.job == Job::Journey {
@@ -99,32 +99,32 @@ fn answer(job: Job, answer: &Answer) -> String {
     match job {
         Job::Class if kind < 5 => class_name(kind).to_string(),
         Job::Class => format!("no such class: {kind}"),
-        Job::Fill if refusal == 0 => "done".to_string(),
-        Job::Fill => format!("refused by {refusal}"),
+        Job::Fill | Job::Restate if refusal == 0 => "done".to_string(),
+        Job::Fill | Job::Restate => format!("refused by {refusal}"),
         _ if *answer == Answer::refused(refusal) && refusal != 0 => format!("refused by {refusal}"),
-        Job::Refresh if refusal != 0 => format!("refused by {refusal}, with {skipped} skipped"),
+        Job::Refresh | Job::Update if refusal != 0 => format!("refused by {refusal}, with {skipped} skipped"),
         _ if refusal != 0 => format!("refused by {refusal}, with kind {kind}, mask {mask}, hops {hops}"),
         Job::Open => format!("n = {kind}"),
-        Job::Refresh => format!("{skipped} skipped"),
+        Job::Refresh | Job::Update => format!("{skipped} skipped"),
         Job::Hop => format!("{}, mask {mask}, hops {hops}", named(&STEPS)),
         Job::Decide | Job::Journey => format!("{}, mask {mask}, hops {hops}", named(&KINDS)),
     }
 }
 
-fn memory(text: &mut String, job: Job, door: &Memory, model: &Memory) {
-    let bytes = if job == Job::Refresh { "log" } else { "record" };
-    places(text, bytes, &door.bytes, &model.bytes);
-    places(text, "status", &door.status, &model.status);
-    places(text, "links", &door.links, &model.links);
-    places(text, "vectors", &door.vectors, &model.vectors);
-    places(text, "picks", &door.picks, &model.picks);
-    places(text, "path", &door.path, &model.path);
+fn memory(text: &mut String, job: Job, library: &Memory, model: &Memory) {
+    let bytes = if job.has_log() { "log" } else { "record" };
+    places(text, bytes, &library.bytes, &model.bytes);
+    places(text, "status", &library.status, &model.status);
+    places(text, "links", &library.links, &model.links);
+    places(text, "vectors", &library.vectors, &model.vectors);
+    places(text, "picks", &library.picks, &model.picks);
+    places(text, "path", &library.path, &model.path);
 }
 
 /// The first places at which memory differs afterwards.
-fn places<T: PartialEq + Display>(text: &mut String, name: &str, door: &[T], model: &[T]) {
-    let differing = door.iter().zip(model).enumerate().filter(|(_, (ours, theirs))| ours != theirs);
+fn places<T: PartialEq + Display>(text: &mut String, name: &str, library: &[T], model: &[T]) {
+    let differing = library.iter().zip(model).enumerate().filter(|(_, (ours, theirs))| ours != theirs);
     for (at, (ours, theirs)) in differing.take(8) {
-        let _ = writeln!(text, "  afterwards {name}[{at}] is {theirs} by the model and {ours} by the door");
+        let _ = writeln!(text, "  afterwards {name}[{at}] is {theirs} by the model and {ours} by the library");
     }
 }

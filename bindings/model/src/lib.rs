@@ -2,7 +2,7 @@
 //!
 //! [`model`] is the paper's rules as plain Rust, written to be checked by eye.
 //! [`plain`] is fast plain Rust, held to the model by tests; benchmarks compare with it.
-//! Both stand behind the trait [`Door`], which has the shape of the C door.
+//! Both have the trait [`Jobs`], which has the shape of the C interface.
 
 pub mod model;
 pub mod plain;
@@ -24,7 +24,7 @@ pub struct Opened {
     pub n: u32,
 }
 
-/// What Refresh answers. After a refusal `skipped` is 0.
+/// What Refresh and Update answer. After a refusal `skipped` is 0.
 #[derive(Clone, Copy, Debug, Default, PartialEq, Eq)]
 pub struct Refreshed {
     pub refusal: u32,
@@ -53,8 +53,8 @@ impl Refreshed {
     }
 }
 
-/// The jobs, as the C door has them. A job changes only the slices it takes by `&mut`.
-pub trait Door {
+/// The jobs, as the C interface has them. A job changes only the slices it takes by `&mut`.
+pub trait Jobs {
     fn class(&self, byte: u8) -> u32;
 
     fn fill(&self, n: u32, status: &[u8], links: &[u16], vectors: &mut [u16]) -> u32;
@@ -81,16 +81,20 @@ pub trait Door {
     fn open(&self, bytes: &[u8], status: &mut [u8], links: &mut [u16]) -> Opened;
 
     fn refresh(&self, n: u32, sweep: u16, log: &[u8], status: &mut [u8]) -> Refreshed;
+
+    fn update(&self, n: u32, sweep: u16, part: &[u8], status: &mut [u8]) -> Refreshed;
+
+    fn restate(&self, bytes: &mut [u8], status: &[u8]) -> u32;
 }
 
-/// A door that opens on the functions of one module.
-macro_rules! door {
+/// The jobs as the functions of one module.
+macro_rules! jobs {
     ($(#[$doc:meta])* $name:ident, $module:ident) => {
         $(#[$doc])*
         #[derive(Clone, Copy, Debug)]
         pub struct $name;
 
-        impl Door for $name {
+        impl Jobs for $name {
             fn class(&self, byte: u8) -> u32 {
                 $module::class(byte)
             }
@@ -128,15 +132,23 @@ macro_rules! door {
             fn refresh(&self, n: u32, sweep: u16, log: &[u8], status: &mut [u8]) -> Refreshed {
                 $module::refresh(n, sweep, log, status)
             }
+
+            fn update(&self, n: u32, sweep: u16, part: &[u8], status: &mut [u8]) -> Refreshed {
+                $module::update(n, sweep, part, status)
+            }
+
+            fn restate(&self, bytes: &mut [u8], status: &[u8]) -> u32 {
+                $module::restate(bytes, status)
+            }
         }
     };
 }
 
-door!(
-    /// The model behind the door.
+jobs!(
+    /// The model.
     Model, model
 );
-door!(
-    /// Fast plain Rust behind the door.
+jobs!(
+    /// Fast plain Rust.
     Plain, plain
 );

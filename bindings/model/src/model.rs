@@ -378,6 +378,34 @@ pub fn refresh(n: u32, sweep: u16, log: &[u8], status: &mut [u8]) -> Refreshed {
     Refreshed { refusal: 0, skipped }
 }
 
+/// Update: the status bytes from one more part of a status log, where each node keeps the younger of what it had and
+/// what the part says.
+pub fn update(n: u32, sweep: u16, part: &[u8], status: &mut [u8]) -> Refreshed {
+    let mut said = status.to_vec();
+    let refreshed = refresh(n, sweep, part, &mut said);
+    if refreshed.refusal == 0 {
+        for (byte, said) in status.iter_mut().zip(said) {
+            *byte = match (*byte, said) {
+                (0, said) => said,
+                (held, 0) => held,
+                (held, said) => held.min(said),
+            };
+        }
+    }
+    refreshed
+}
+
+/// Restate: puts status bytes over those of a record, from its sixth byte on. Refuses by 2 if they do not fit.
+pub fn restate(bytes: &mut [u8], status: &[u8]) -> u32 {
+    if bytes.len() < 5 + status.len() {
+        return 2;
+    }
+    for (a, byte) in status.iter().enumerate() {
+        bytes[5 + a] = *byte;
+    }
+    0
+}
+
 /// What the program `listing` prints for a record.
 pub fn listing(record: &[u8]) -> String {
     let (mut status, mut links) = ([0; 1024], [0; 1024]);

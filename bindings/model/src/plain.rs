@@ -274,24 +274,35 @@ fn try_open(bytes: &[u8], status: &mut [u8], links: &mut [u16]) -> Result<u32, u
 }
 
 pub fn refresh(n: u32, sweep: u16, log: &[u8], status: &mut [u8]) -> Refreshed {
-    match try_refresh(n, sweep, log, status) {
-        Ok(skipped) => Refreshed { refusal: 0, skipped },
-        Err(refusal) => Refreshed::refused(refusal),
+    if let Err(refusal) = check_log(n, log, status) {
+        return Refreshed::refused(refusal);
     }
+    status.fill(0);
+    Refreshed { refusal: 0, skipped: take_in(sweep, log, status) }
 }
 
-fn try_refresh(n: u32, sweep: u16, log: &[u8], status: &mut [u8]) -> Result<usize, u32> {
+pub fn update(n: u32, sweep: u16, part: &[u8], status: &mut [u8]) -> Refreshed {
+    if let Err(refusal) = check_log(n, part, status) {
+        return Refreshed::refused(refusal);
+    }
+    Refreshed { refusal: 0, skipped: take_in(sweep, part, status) }
+}
+
+pub fn restate(bytes: &mut [u8], status: &[u8]) -> u32 {
+    match bytes.get_mut(5..5 + status.len()) {
+        Some(place) => place.copy_from_slice(status),
+        None => return 2,
+    }
+    0
+}
+
+fn check_log(n: u32, log: &[u8], status: &[u8]) -> Result<(), u32> {
     if !(1..=10).contains(&n) {
         return Err(1);
     }
     if status.len() != 1 << n {
         return Err(2);
     }
-    check_log(n, log)?;
-    Ok(take_in(sweep, log, status))
-}
-
-fn check_log(n: u32, log: &[u8]) -> Result<(), u32> {
     let records = log.chunks_exact(8);
     let cut = records.remainder();
     for record in records {
@@ -309,10 +320,9 @@ fn check_log(n: u32, log: &[u8]) -> Result<(), u32> {
     }
 }
 
-/// Writes the status bytes from a log that was checked, and gives how many records it skipped.
+/// Lets the records of a log that was checked speak for their nodes, and gives how many it skipped.
 fn take_in(sweep: u16, log: &[u8], status: &mut [u8]) -> usize {
     let mut skipped = 0;
-    status.fill(0);
     for record in log.chunks_exact(8) {
         let age = sweep.wrapping_sub(u16::from_le_bytes([record[4], record[5]]));
         if age >= 32_768 {

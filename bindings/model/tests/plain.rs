@@ -1,7 +1,7 @@
 //! Plain Rust answers as the model does: on every cabinet of up to four boards, and on chosen larger ones.
 
 use deruvain_model::random::Random;
-use deruvain_model::{Door, Model, Plain};
+use deruvain_model::{Jobs, Model, Plain};
 
 /// All vectors, decisions, hops and journeys of one report, on both.
 fn agree_everywhere(n: u32, status: &[u8], links: &[u16], pairs: impl Iterator<Item = (u16, u16)>, pick: u8) {
@@ -12,9 +12,9 @@ fn agree_everywhere(n: u32, status: &[u8], links: &[u16], pairs: impl Iterator<I
     for (a, b) in pairs {
         assert_eq!(Plain.decide(n, status, links, &ours, a, b), Model.decide(n, status, links, &ours, a, b));
         assert_eq!(Plain.hop(n, status, links, &ours, a, b), Model.hop(n, status, links, &ours, a, b));
-        let journey = |door: &dyn Door| {
+        let journey = |library: &dyn Jobs| {
             let (mut vectors, mut path) = (vec![7; size], [9; 12]);
-            let answer = door.journey(n, status, links, &mut vectors, &[pick; 11], &mut path, a, b);
+            let answer = library.journey(n, status, links, &mut vectors, &[pick; 11], &mut path, a, b);
             (answer, vectors, path)
         };
         assert_eq!(journey(&Plain), journey(&Model), "{n} {status:?} {links:?} {a} {b}");

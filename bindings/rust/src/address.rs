@@ -16,6 +16,8 @@ fn weight(dimension: u32) -> u16 {
 /// assert_eq!(Node(1).to(Node(12)), Relative(13));
 /// assert_eq!(Node(1).at(Relative(13)), Node(12));
 /// assert_eq!(Node(1).neighbour(4), Node(9));
+/// assert_eq!(Node::from(7), Node(7));
+/// assert_eq!(["a", "b"][usize::from(Node(1))], "b");
 /// ```
 ///
 /// A node is no relative address:
@@ -26,7 +28,10 @@ fn weight(dimension: u32) -> u16 {
 /// let relative: Relative = Node(1);
 /// ```
 #[derive(Clone, Copy, Debug, PartialEq, Eq, PartialOrd, Ord, Hash)]
-pub struct Node(pub u16);
+pub struct Node(
+    /// The number, from 0.
+    pub u16,
+);
 
 impl Node {
     /// The relative address of this node and a destination: their exclusive or.
@@ -45,9 +50,35 @@ impl Node {
     }
 }
 
-impl fmt::Display for Node {
-    fn fmt(&self, f: &mut fmt::Formatter) -> fmt::Result {
-        self.0.fmt(f)
+/// A number as an address and back, both as decimal digits.
+macro_rules! numbers {
+    ($($address:ident)*) => {$(
+        impl From<u16> for $address {
+            fn from(number: u16) -> $address {
+                $address(number)
+            }
+        }
+
+        impl From<$address> for u16 {
+            fn from(address: $address) -> u16 {
+                address.0
+            }
+        }
+
+        impl fmt::Display for $address {
+            fn fmt(&self, f: &mut fmt::Formatter) -> fmt::Result {
+                self.0.fmt(f)
+            }
+        }
+    )*};
+}
+
+numbers!(Node Relative);
+
+/// The node's place in the slices of a report.
+impl From<Node> for usize {
+    fn from(node: Node) -> usize {
+        node.0.into()
     }
 }
 
@@ -63,7 +94,10 @@ impl fmt::Display for Node {
 /// assert!(Relative(0b1000).crossed(4).arrived());
 /// ```
 #[derive(Clone, Copy, Debug, PartialEq, Eq, PartialOrd, Ord, Hash)]
-pub struct Relative(pub u16);
+pub struct Relative(
+    /// The dimensions as bits, dimension i at weight 2^(i−1).
+    pub u16,
+);
 
 impl Relative {
     /// How many dimensions differ: the distance.

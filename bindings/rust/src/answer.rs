@@ -1,4 +1,4 @@
-use crate::{raw, Node};
+use crate::{raw, NoSuchNumber, Node};
 use std::fmt;
 
 /// The class of a status byte. Only working boards are nonfaulty.
@@ -7,6 +7,7 @@ use std::fmt;
 /// use deruvain::Class;
 ///
 /// assert_eq!(Class::of(4), Class::Working);
+/// assert_eq!(Class::from(254), Class::Down);
 /// assert_eq!(Class::of(0).to_string(), "silent");
 /// ```
 #[derive(Clone, Copy, Debug, PartialEq, Eq, Hash)]
@@ -32,8 +33,15 @@ impl Class {
             2 => Class::Late,
             3 => Class::Down,
             4 => Class::Empty,
-            number => unreachable!("the door gave the class {number}"),
+            number => unreachable!("the library gave the class {number}"),
         }
+    }
+}
+
+/// The class of a status byte.
+impl From<u8> for Class {
+    fn from(byte: u8) -> Class {
+        Class::of(byte)
     }
 }
 
@@ -52,7 +60,7 @@ impl fmt::Display for Class {
 /// How a message gets to its destination, H dimensions away.
 #[derive(Clone, Copy, Debug, PartialEq, Eq, Hash)]
 pub enum Kind {
-    /// It is there.
+    /// The source is the destination.
     Home,
     /// The source's own bit promises a path of H hops.
     Assured,
@@ -64,13 +72,28 @@ pub enum Kind {
 
 impl Kind {
     pub(crate) fn of(number: u32) -> Kind {
+        Kind::try_from(number).expect("the library gives kinds of this crate")
+    }
+}
+
+/// The kind of a number of [`raw::Answer`], of decide or journey.
+impl TryFrom<u32> for Kind {
+    type Error = NoSuchNumber;
+
+    fn try_from(number: u32) -> Result<Kind, NoSuchNumber> {
         match number {
-            0 => Kind::Home,
-            1 => Kind::Assured,
-            2 => Kind::Lent,
-            3 => Kind::Detour,
-            _ => unreachable!("the door gave the kind {number}"),
+            0 => Ok(Kind::Home),
+            1 => Ok(Kind::Assured),
+            2 => Ok(Kind::Lent),
+            3 => Ok(Kind::Detour),
+            _ => Err(NoSuchNumber::new("kind", number)),
         }
+    }
+}
+
+impl From<Kind> for u32 {
+    fn from(kind: Kind) -> u32 {
+        kind as u32
     }
 }
 
@@ -85,7 +108,7 @@ impl fmt::Display for Kind {
     }
 }
 
-/// The dimensions that a message may take from a node.
+/// The dimensions that a message may take from a node. It prints as the dimensions, from the lowest.
 #[derive(Clone, Copy, Debug, PartialEq, Eq, Hash)]
 pub struct Offer(u16);
 
@@ -115,9 +138,27 @@ impl Offer {
     }
 }
 
+impl fmt::Display for Offer {
+    fn fmt(&self, f: &mut fmt::Formatter) -> fmt::Result {
+        spaced(f, self.dimensions())
+    }
+}
+
+/// Writes these one space apart.
+fn spaced<T: fmt::Display>(f: &mut fmt::Formatter, values: impl Iterator<Item = T>) -> fmt::Result {
+    for (place, value) in values.enumerate() {
+        if place > 0 {
+            f.write_str(" ")?;
+        }
+        value.fmt(f)?;
+    }
+    Ok(())
+}
+
 /// What the source may do.
 #[derive(Clone, Copy, Debug, PartialEq, Eq, Hash)]
 pub struct Decision {
+    /// How the message gets to its destination.
     pub kind: Kind,
     /// The dimensions for the first hop; none at home.
     pub offer: Offer,
@@ -135,8 +176,17 @@ pub enum Step {
 }
 
 /// A message's way from source to destination.
+///
+/// ```
+/// use deruvain::{Node, Report};
+///
+/// let journey = Report::healthy(4)?.journey(&[0; 5], Node(1), Node(12))?;
+/// assert_eq!(journey.to_string(), "assured, 3 hops: 1 0 4 12");
+/// # Ok::<(), deruvain::Refusal>(())
+/// ```
 #[derive(Clone, Debug, PartialEq, Eq, Hash)]
 pub struct Journey {
+    /// How the message gets to its destination.
     pub kind: Kind,
     /// The dimensions that the source had to choose from.
     pub offer: Offer,
@@ -145,8 +195,16 @@ pub struct Journey {
 }
 
 impl Journey {
-    /// The number of hops.
+    /// The number of hops: the nodes of the path less one.
     pub fn hops(&self) -> usize {
-        self.path.len() - 1
+        self.path.len().saturating_sub(1)
+    }
+}
+
+impl fmt::Display for Journey {
+    fn fmt(&self, f: &mut fmt::Formatter) -> fmt::Result {
+        let hops = self.hops();
+        write!(f, "{}, {hops} {}: ", self.kind, if hops == 1 { "hop" } else { "hops" })?;
+        spaced(f, self.path.iter())
     }
 }

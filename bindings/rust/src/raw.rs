@@ -1,4 +1,4 @@
-//! The C door, function for function, over slices that the caller lends.
+//! The C interface, function for function, over slices that the caller lends.
 //!
 //! Any input is answered. The numbers are those of `deruvain.h`.
 //!
@@ -35,7 +35,7 @@ pub struct Opened {
     pub n: u32,
 }
 
-/// What [`refresh`] answers. After a refusal `skipped` is 0.
+/// What [`refresh`] and [`update`] answer. After a refusal `skipped` is 0.
 #[repr(C)]
 #[derive(Clone, Copy, Debug, PartialEq, Eq)]
 pub struct Refreshed {
@@ -45,7 +45,7 @@ pub struct Refreshed {
     pub skipped: usize,
 }
 
-mod door {
+mod c {
     use super::{Answer, Opened, Refreshed};
 
     extern "C" {
@@ -112,23 +112,32 @@ mod door {
             status: *mut u8,
             status_len: usize,
         ) -> Refreshed;
+        pub fn deruvain_update(
+            n: u32,
+            sweep: u16,
+            part: *const u8,
+            part_len: usize,
+            status: *mut u8,
+            status_len: usize,
+        ) -> Refreshed;
+        pub fn deruvain_restate(bytes: *mut u8, bytes_len: usize, status: *const u8, status_len: usize) -> u32;
     }
 }
 
 // SAFETY, of every call below: each pointer and length is a live slice, those written are
-// borrowed by `&mut` and so overlap no other, and the door asks nothing else of its callers.
+// borrowed by `&mut` and so overlap no other, and the library asks nothing else of its callers.
 
 /// The class of a status byte: 0 silent, 1 working, 2 late, 3 down, 4 empty.
 #[inline]
 pub fn class(byte: u8) -> u32 {
-    unsafe { door::deruvain_class(byte) }
+    unsafe { c::deruvain_class(byte) }
 }
 
 /// Writes the vectors of all nodes. Gives the refusal number, 0 for done.
 #[inline]
 pub fn fill(n: u32, status: &[u8], links: &[u16], vectors: &mut [u16]) -> u32 {
     unsafe {
-        door::deruvain_fill(
+        c::deruvain_fill(
             n,
             status.as_ptr(),
             status.len(),
@@ -144,7 +153,7 @@ pub fn fill(n: u32, status: &[u8], links: &[u16], vectors: &mut [u16]) -> u32 {
 #[inline]
 pub fn decide(n: u32, status: &[u8], links: &[u16], vectors: &[u16], source: u16, destination: u16) -> Answer {
     unsafe {
-        door::deruvain_decide(
+        c::deruvain_decide(
             n,
             status.as_ptr(),
             status.len(),
@@ -162,7 +171,7 @@ pub fn decide(n: u32, status: &[u8], links: &[u16], vectors: &[u16], source: u16
 #[inline]
 pub fn hop(n: u32, status: &[u8], links: &[u16], vectors: &[u16], node: u16, relative: u16) -> Answer {
     unsafe {
-        door::deruvain_hop(
+        c::deruvain_hop(
             n,
             status.as_ptr(),
             status.len(),
@@ -190,7 +199,7 @@ pub fn journey(
     destination: u16,
 ) -> Answer {
     unsafe {
-        door::deruvain_journey(
+        c::deruvain_journey(
             n,
             status.as_ptr(),
             status.len(),
@@ -212,7 +221,7 @@ pub fn journey(
 #[inline]
 pub fn open(bytes: &[u8], status: &mut [u8], links: &mut [u16]) -> Opened {
     unsafe {
-        door::deruvain_open(
+        c::deruvain_open(
             bytes.as_ptr(),
             bytes.len(),
             status.as_mut_ptr(),
@@ -226,5 +235,19 @@ pub fn open(bytes: &[u8], status: &mut [u8], links: &mut [u16]) -> Opened {
 /// Writes all status bytes from a status log, in this sweep.
 #[inline]
 pub fn refresh(n: u32, sweep: u16, log: &[u8], status: &mut [u8]) -> Refreshed {
-    unsafe { door::deruvain_refresh(n, sweep, log.as_ptr(), log.len(), status.as_mut_ptr(), status.len()) }
+    unsafe { c::deruvain_refresh(n, sweep, log.as_ptr(), log.len(), status.as_mut_ptr(), status.len()) }
+}
+
+/// Takes one more part of a status log, in whole records, into the status bytes that the earlier
+/// parts gave; before the first part they are all 0.
+#[inline]
+pub fn update(n: u32, sweep: u16, part: &[u8], status: &mut [u8]) -> Refreshed {
+    unsafe { c::deruvain_update(n, sweep, part.as_ptr(), part.len(), status.as_mut_ptr(), status.len()) }
+}
+
+/// Puts status bytes over those of a record. Gives the refusal number, 0 for done: 2 if the record
+/// has no room for them. Nothing else is looked at.
+#[inline]
+pub fn restate(bytes: &mut [u8], status: &[u8]) -> u32 {
+    unsafe { c::deruvain_restate(bytes.as_mut_ptr(), bytes.len(), status.as_ptr(), status.len()) }
 }

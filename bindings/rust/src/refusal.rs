@@ -1,95 +1,105 @@
+use crate::NoSuchNumber;
 use std::fmt;
 
-/// Why a job refused.
-///
-/// ```
-/// use deruvain::Refusal;
-///
-/// assert_eq!(Refusal::NoRoute.number(), 7);
-/// assert_eq!(Refusal::NoRoute.to_string(), "no route by the rules");
-/// assert_eq!(Refusal::of(7), Some(Refusal::NoRoute));
-/// assert_eq!(Refusal::of(0), None);
-/// ```
-#[derive(Clone, Copy, Debug, PartialEq, Eq, Hash)]
-#[non_exhaustive]
-pub enum Refusal {
-    /// 1: n not 1 to 10.
-    Dimension = 1,
-    /// 2: report or vectors not 2^n long, or picks under n+1.
-    Length = 2,
-    /// 3: some link word has a bit at weight 2^n or above.
-    LinkWord = 3,
-    /// 4: node or relative address not below 2^n.
-    Address = 4,
-    /// 5: source, or the node at a hop, not working.
-    Source = 5,
-    /// 6: destination not working.
-    Destination = 6,
-    /// 7: no route by the rules.
-    NoRoute = 7,
-    /// 8: own bit says yes, no neighbour bears it out.
-    NotBorneOut = 8,
-    /// 9: no dimension to offer at a later node.
-    NothingToOffer = 9,
-    /// 10: record malformed.
-    Malformed = 10,
-    /// 11: a log's record cut short, or of another length or kind.
-    LogRecord = 11,
-    /// 12: a log's record has a node not below 2^n.
-    LogNode = 12,
+/// Says each refusal once: its number, its name and its words.
+macro_rules! refusals {
+    ($($number:literal $name:ident $words:literal)*) => {
+        /// Why a job refused.
+        ///
+        /// Its `Display` says why, its `Debug` the number and the name too: so does a `main` that returns it.
+        ///
+        /// ```
+        /// use deruvain::Refusal;
+        ///
+        /// assert_eq!(Refusal::NoRoute.number(), 7);
+        /// assert_eq!(Refusal::NoRoute.to_string(), "there is no route by the rules");
+        /// assert_eq!(format!("{:?}", Refusal::NoRoute), "refused by 7 (NoRoute): there is no route by the rules");
+        /// assert_eq!(Refusal::try_from(7), Ok(Refusal::NoRoute));
+        /// assert_eq!(Refusal::of(0), None);
+        /// ```
+        #[derive(Clone, Copy, PartialEq, Eq, PartialOrd, Ord, Hash)]
+        #[non_exhaustive]
+        pub enum Refusal {
+            $(#[doc = concat!($number, ": ", $words, ".")] $name = $number,)*
+        }
+
+        impl Refusal {
+            /// Every refusal, in the order of the numbers.
+            pub const ALL: &'static [Refusal] = &[$(Refusal::$name),*];
+
+            fn name(self) -> &'static str {
+                match self {
+                    $(Refusal::$name => stringify!($name),)*
+                }
+            }
+
+            fn words(self) -> &'static str {
+                match self {
+                    $(Refusal::$name => $words,)*
+                }
+            }
+        }
+    };
+}
+
+refusals! {
+    1 Dimension "n is not 1 to 10"
+    2 Length "the status bytes, link words or vectors are not 2^n, or picks, path or a lent slice are too short"
+    3 LinkWord "a link word has a bit at weight 2^n or above"
+    4 Address "a node or a relative address is not below 2^n"
+    5 Source "the source, or the node at a hop, is not working"
+    6 Destination "the destination is not working"
+    7 NoRoute "there is no route by the rules"
+    8 NotBorneOut "the source's own bit promises a path, and no neighbour bears it out"
+    9 NothingToOffer "a later node has no dimension to offer"
+    10 Malformed "the record is malformed"
+    11 LogRecord "a record of the log is cut short, or of another length or kind"
+    12 LogNode "a record of the log has a node that is not below 2^n"
 }
 
 impl Refusal {
-    const ALL: [Refusal; 12] = [
-        Refusal::Dimension,
-        Refusal::Length,
-        Refusal::LinkWord,
-        Refusal::Address,
-        Refusal::Source,
-        Refusal::Destination,
-        Refusal::NoRoute,
-        Refusal::NotBorneOut,
-        Refusal::NothingToOffer,
-        Refusal::Malformed,
-        Refusal::LogRecord,
-        Refusal::LogNode,
-    ];
-
-    /// The number, as the C door gives it.
+    /// The number, as the C interface gives it.
     pub fn number(self) -> u32 {
         self as u32
     }
 
     /// The refusal of this number, if there is one.
     pub fn of(number: u32) -> Option<Refusal> {
-        Refusal::ALL.into_iter().find(|refusal| refusal.number() == number)
+        Refusal::ALL.iter().copied().find(|refusal| refusal.number() == number)
     }
 
-    /// `Ok` for 0, else the refusal that the door gave.
+    /// `Ok` for 0, else the refusal that the library gave.
     pub(crate) fn check(number: u32) -> Result<(), Refusal> {
         match number {
             0 => Ok(()),
-            _ => Err(Refusal::of(number).expect("the door refuses by numbers of this crate")),
+            _ => Err(Refusal::of(number).expect("the library refuses by numbers of this crate")),
         }
+    }
+}
+
+impl TryFrom<u32> for Refusal {
+    type Error = NoSuchNumber;
+
+    fn try_from(number: u32) -> Result<Refusal, NoSuchNumber> {
+        Refusal::of(number).ok_or(NoSuchNumber::new("refusal", number))
+    }
+}
+
+impl From<Refusal> for u32 {
+    fn from(refusal: Refusal) -> u32 {
+        refusal.number()
     }
 }
 
 impl fmt::Display for Refusal {
     fn fmt(&self, f: &mut fmt::Formatter) -> fmt::Result {
-        f.write_str(match self {
-            Refusal::Dimension => "n not 1 to 10",
-            Refusal::Length => "report or vectors not 2^n long, or picks under n+1, or a lent slice too short",
-            Refusal::LinkWord => "some link word has a bit at weight 2^n or above",
-            Refusal::Address => "node or relative address not below 2^n",
-            Refusal::Source => "source, or the node at a hop, not working",
-            Refusal::Destination => "destination not working",
-            Refusal::NoRoute => "no route by the rules",
-            Refusal::NotBorneOut => "own bit says yes, no neighbour bears it out",
-            Refusal::NothingToOffer => "no dimension to offer at a later node",
-            Refusal::Malformed => "record malformed",
-            Refusal::LogRecord => "a log's record cut short, or of another length or kind",
-            Refusal::LogNode => "a log's record has a node not below 2^n",
-        })
+        f.pad(self.words())
+    }
+}
+
+impl fmt::Debug for Refusal {
+    fn fmt(&self, f: &mut fmt::Formatter) -> fmt::Result {
+        write!(f, "refused by {} ({}): {}", self.number(), self.name(), self.words())
     }
 }
 

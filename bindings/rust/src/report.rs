@@ -1,7 +1,6 @@
-use crate::{raw, Class, Decision, Journey, Kind, Node, Offer, Refusal, Relative, Step};
-
-/// The largest cube has this dimension.
-const LARGEST: u32 = 10;
+use crate::{
+    byte, raw, Class, Decision, Journey, Kind, Node, Offer, Refusal, Relative, Step, LARGEST_N, LARGEST_NODES,
+};
 
 /// What is known of a cabinet: a status byte and a link word for each node of a cube.
 ///
@@ -17,7 +16,7 @@ const LARGEST: u32 = 10;
 pub struct Report {
     /// The dimension, 1 to 10.
     pub n: u32,
-    /// One byte for each node: 1 to 4 for a working one (see [`Class`]).
+    /// One byte for each node: 1 to 4 for a working one (see [`Class`] and [`byte`](crate::byte)).
     pub status: Vec<u8>,
     /// One word for each node: the bit of weight 2^(i−1) marks its link along dimension i. A link
     /// counts as faulty if the word of either end marks it, also of an end that isn't working.
@@ -42,6 +41,18 @@ pub struct Vectors(
     pub Vec<u16>,
 );
 
+impl From<Vec<u16>> for Vectors {
+    fn from(words: Vec<u16>) -> Vectors {
+        Vectors(words)
+    }
+}
+
+impl From<Vectors> for Vec<u16> {
+    fn from(vectors: Vectors) -> Vec<u16> {
+        vectors.0
+    }
+}
+
 impl Vectors {
     /// Bit k, from 1, of a node; false where there is no such bit or node.
     pub fn bit(&self, node: Node, k: u32) -> bool {
@@ -61,10 +72,10 @@ impl Report {
     /// # Ok::<(), Refusal>(())
     /// ```
     pub fn healthy(n: u32) -> Result<Report, Refusal> {
-        if !(1..=LARGEST).contains(&n) {
+        if !(1..=LARGEST_N).contains(&n) {
             return Err(Refusal::Dimension);
         }
-        Ok(Report { n, status: vec![1; 1 << n], links: vec![0; 1 << n] })
+        Ok(Report { n, status: vec![byte::HEARD; 1 << n], links: vec![0; 1 << n] })
     }
 
     /// Reads a record.
@@ -80,8 +91,8 @@ impl Report {
     /// # Ok::<(), Refusal>(())
     /// ```
     pub fn open(record: &[u8]) -> Result<Report, Refusal> {
-        let mut status = vec![0; 1 << LARGEST];
-        let mut links = vec![0; 1 << LARGEST];
+        let mut status = vec![0; LARGEST_NODES];
+        let mut links = vec![0; LARGEST_NODES];
         let opened = raw::open(record, &mut status, &mut links);
         Refusal::check(opened.refusal)?;
         status.truncate(1 << opened.n);
@@ -107,6 +118,53 @@ impl Report {
         let refreshed = raw::refresh(self.n, sweep, log, &mut self.status);
         Refusal::check(refreshed.refusal)?;
         Ok(refreshed.skipped)
+    }
+
+    /// [`refresh`](Report::refresh) for a log that comes in parts, each of whole records: takes one
+    /// more part into the status bytes. Before the first part make them all silent. Gives how many
+    /// records of this part are from the future. After a refusal the report is as the earlier
+    /// parts left it.
+    ///
+    /// ```
+    /// use deruvain::{byte, Refusal, Report};
+    ///
+    /// let log = [6, 0, 2, 0, 0xff, 0xff, 1, 0, 6, 0, 2, 0, 2, 0, 0, 0];
+    /// let mut report = Report::healthy(1)?;
+    /// report.status.fill(byte::SILENT);
+    /// let mut skipped = 0;
+    /// for part in log.chunks(8) {
+    ///     skipped += report.update(2, part)?;
+    /// }
+    /// assert_eq!((report.status, skipped), (vec![1, 4], 0));
+    /// # Ok::<(), Refusal>(())
+    /// ```
+    pub fn update(&mut self, sweep: u16, part: &[u8]) -> Result<usize, Refusal> {
+        let updated = raw::update(self.n, sweep, part, &mut self.status);
+        Refusal::check(updated.refusal)?;
+        Ok(updated.skipped)
+    }
+
+    /// Writes the status bytes into a record of a cabinet of this size; its link words stay. A
+    /// record that [`open`](Report::open) refuses is refused likewise, one of another n by
+    /// [`Refusal::Length`], and is then as it was.
+    ///
+    /// ```
+    /// use deruvain::{byte, Refusal, Report};
+    ///
+    /// let mut record = [9, 0, 1, 0, 1, 1, 1, 0, 0, 1, 0];
+    /// let mut report = Report::open(&record)?;
+    /// report.status[0] = byte::DOWN;
+    /// report.restate(&mut record)?;
+    /// assert_eq!(record, [9, 0, 1, 0, 1, 254, 1, 0, 0, 1, 0]);
+    /// assert_eq!(Report::open(&record)?, report);
+    /// # Ok::<(), Refusal>(())
+    /// ```
+    pub fn restate(&self, record: &mut [u8]) -> Result<(), Refusal> {
+        let read = Report::open(record)?;
+        if self.n != read.n || self.status.len() != read.status.len() {
+            return Err(Refusal::Length);
+        }
+        Refusal::check(raw::restate(record, &self.status))
     }
 
     /// The class of a node's board, if the report has the node.
@@ -212,7 +270,7 @@ impl Report {
     /// ```
     pub fn journey(&self, picks: &[u8], source: Node, destination: Node) -> Result<Journey, Refusal> {
         let mut vectors = self.room_for_vectors();
-        let mut path = [0; LARGEST as usize + 2];
+        let mut path = [0; LARGEST_N as usize + 2];
         let answer =
             raw::journey(self.n, &self.status, &self.links, &mut vectors, picks, &mut path, source.0, destination.0);
         Refusal::check(answer.refusal)?;
@@ -222,6 +280,6 @@ impl Report {
 
     /// A word for each node of the cube, or of the largest one if n is larger.
     fn room_for_vectors(&self) -> Vec<u16> {
-        vec![0; 1 << self.n.min(LARGEST)]
+        vec![0; 1 << self.n.min(LARGEST_N)]
     }
 }

@@ -1,6 +1,6 @@
-//! Document 01's cabinets and cases through the safe face.
+//! Document 01's cabinets and cases through the safe interface.
 
-use deruvain::{Class, Kind, Node, Refusal, Relative, Report, Step, Vectors};
+use deruvain::{byte, Class, Kind, Node, Refusal, Relative, Report, Step, Vectors};
 
 fn f() -> Report {
     let mut report = Report::healthy(4).unwrap();
@@ -155,6 +155,87 @@ fn a_refused_log_leaves_the_report() {
     report.n = 11;
     assert_eq!(report.refresh(0, &[]), Err(Refusal::Dimension));
     assert_eq!(report.status, f().status[..15]);
+}
+
+#[test]
+fn a_log_in_parts_is_the_log() {
+    let heard = log(&[(65_534, 0), (65_535, 1), (65_535, 2), (1, 2), (3, 3), (2, 4), (3, 4), (32_770, 5), (32_771, 6)]);
+    let mut whole = Report::healthy(3).unwrap();
+    let skipped = whole.refresh(2, &heard).unwrap();
+    for records in 1..=9 {
+        let mut report = Report::healthy(3).unwrap();
+        report.status.fill(byte::SILENT);
+        let counts = heard.chunks(8 * records).map(|part| report.update(2, part).unwrap());
+        assert_eq!(counts.sum::<usize>(), skipped);
+        assert_eq!(report, whole);
+    }
+}
+
+#[test]
+fn a_refused_part_leaves_what_earlier_parts_gave() {
+    let mut report = Report::healthy(1).unwrap();
+    report.status.fill(byte::SILENT);
+    assert_eq!(report.update(5, &log(&[(4, 1), (6, 0)])), Ok(1));
+    assert_eq!(report.update(5, &log(&[(5, 1), (5, 2)])), Err(Refusal::LogNode));
+    assert_eq!(report.update(5, &log(&[(5, 1)])[..7]), Err(Refusal::LogRecord));
+    assert_eq!(report.status, [byte::SILENT, 2]);
+}
+
+/// The record of a report.
+fn record(report: &Report) -> Vec<u8> {
+    let length = (3 + 3 * report.status.len()) as u16;
+    let words = report.links.iter().flat_map(|word| word.to_le_bytes());
+    let head = length.to_le_bytes().into_iter().chain([1, 0, report.n as u8]);
+    head.chain(report.status.iter().copied()).chain(words).collect()
+}
+
+#[test]
+fn a_restated_record_reads_back() {
+    for n in 1..=10 {
+        let mut report = Report::healthy(n).unwrap();
+        report.mark(Node(1), 1);
+        let mut bytes = record(&report);
+        report.status = (0..1 << n).map(|a| a as u8).collect();
+        report.restate(&mut bytes).unwrap();
+        assert_eq!(Report::open(&bytes), Ok(report));
+    }
+}
+
+#[test]
+fn a_record_that_cannot_be_restated_is_left() {
+    let whole = record(&l());
+    let restated = |report: &Report, record: &[u8]| {
+        let mut after = record.to_vec();
+        let refusal = report.restate(&mut after).unwrap_err();
+        assert_eq!(after, record);
+        refusal
+    };
+    assert_eq!(restated(&f(), &whole[..40]), Refusal::Malformed);
+    assert_eq!(restated(&f(), &[]), Refusal::Malformed);
+    assert_eq!(restated(&Report::healthy(3).unwrap(), &whole), Refusal::Length);
+    assert_eq!(restated(&Report { status: vec![1; 15], ..f() }, &whole), Refusal::Length);
+    assert_eq!(restated(&Report { n: 3, ..f() }, &whole), Refusal::Length);
+}
+
+#[test]
+fn what_people_print() {
+    let journey = f().journey(&[0; 5], Node(1), Node(12)).unwrap();
+    assert_eq!(journey.to_string(), "assured, 3 hops: 1 0 8 12");
+    assert_eq!(journey.offer.to_string(), "1 3");
+    assert_eq!(f().journey(&[0; 5], Node(0), Node(1)).unwrap().to_string(), "assured, 1 hop: 0 1");
+    assert_eq!(f().journey(&[0; 5], Node(5), Node(5)).unwrap().to_string(), "home, 0 hops: 5");
+    let refusal = f().journey(&[0; 5], Node(1), Node(11)).unwrap_err();
+    assert_eq!(format!("{refusal:?}"), "refused by 7 (NoRoute): there is no route by the rules");
+}
+
+#[test]
+fn numbers_there_and_back() {
+    assert_eq!((u16::from(Node::from(7)), usize::from(Node(7)), u16::from(Relative::from(7))), (7, 7, 7));
+    assert_eq!(Vec::from(Vectors::from(vec![1, 2])), [1, 2]);
+    assert!((0..=255).all(|byte| Class::from(byte) == Class::of(byte)));
+    for number in 0..20 {
+        assert_eq!(Refusal::try_from(number).ok(), Refusal::of(number));
+    }
 }
 
 #[test]

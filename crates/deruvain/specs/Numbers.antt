@@ -1,6 +1,10 @@
 -- What the jobs answer, as the numbers that cross to C and Rust.
-use Prim.Native.Nat.{ℕ}
+use Prim.Native.Nat.{ℕ, _+_}
 use mathlib.Core.Path.{_≡_}
+use mathlib.Core.Bool.{cond}
+use mathlib.Core.List.{List}
+use lib.Dec.{leb}
+use lib.ListN.{length}
 use Rattle.cube.specs.Reply.{Reply, refused, accepted}
 use Rattle.report.specs.declared.Class.{Class}
 use Rattle.report.specs.declared.Class.the-variants.{Silent, Working, Late, Down, Empty}
@@ -52,7 +56,15 @@ abbrev pub Read : Opened → Reply ℕ → Type 0
 Read r (refused m) = (r .refusal ≡ m) × (r .n ≡ 0)
 Read r (accepted n) = (r .refusal ≡ 0) × (r .n ≡ n)
 
--- what Refresh's answer becomes
+-- what the answer of Refresh and Update becomes
 abbrev pub Skipped : Refreshed → Reply ℕ → Type 0
 Skipped r (refused m) = (r .refusal ≡ m) × (r .skipped ≡ 0)
 Skipped r (accepted k) = (r .refusal ≡ 0) × (r .skipped ≡ k)
+
+-- 0 where a record has room for the status bytes that Restate puts from the sixth byte on, else 2
+unfoldable pub roomNumber : List ℕ → List ℕ → ℕ
+roomNumber bytes status = cond (leb (5 + length status) (length bytes)) 0 2
+
+-- A job's answer fixes the struct that crosses: two that the relation allows for the same answer are equal.
+unfoldable pub Fixed : {A R : Type 0} → (R → Reply A → Type 0) → Type 0
+Fixed {A = A} {R = R} Allowed = (r₁ r₂ : R) (x : Reply A) → Allowed r₁ x → Allowed r₂ x → r₁ ≡ r₂

@@ -18,9 +18,10 @@ ghost use Rattle.routing.specs.Decide as deciding;
 ghost use Rattle.routing.specs.Hop as hopping;
 ghost use Rattle.journey.specs.Journey as travelling;
 ghost use Rattle.record.specs.Open as opening;
+ghost use Rattle.record.specs.Restate.{restated};
 ghost use Rattle.log_rules.specs.Refresh as refreshing;
 ghost use Rattle.log.specs.Answer as logging;
-ghost use Rattle.deruvain.specs.Numbers.{classNumber, kindNumber, Says, Decided, Hopped, Travelled, Read, Skipped};
+ghost use Rattle.deruvain.specs.Numbers.{classNumber, kindNumber, roomNumber, Says, Decided, Hopped, Travelled, Read, Skipped, Fixed};
 
 // A job's answer: the refusal's number, 0 for an acceptance, and the acceptance's numbers, 0 after a refusal.
 #[repr(C)]
@@ -38,7 +39,7 @@ pub struct Opened {
     pub n: u32,
 }
 
-// Refresh's answer: the refusal's number, 0 for none, and how many records from the future were skipped, 0 after a refusal.
+// The answer of Refresh and Update: the refusal's number, 0 for none, and how many records from the future were skipped, 0 after a refusal.
 #[repr(C)]
 pub struct Refreshed {
     pub refusal: u32,
@@ -239,7 +240,7 @@ pub extern "C" fn deruvain_open(bytes: &[u8], status: &mut [u8], links: &mut [u1
     of_opened(record::open(bytes, status, links))
 }
 
-// Refresh's answer as numbers.
+// The answer of Refresh and Update as numbers.
 fn of_refreshed(refreshed: log::Refreshed) -> Refreshed
     ensures { λ r. ⌜ Skipped r (logging.said refreshed) ⌝ }
 {
@@ -263,3 +264,45 @@ pub extern "C" fn deruvain_refresh(n: u32, sweep: u16, log: &[u8], status: &mut 
 {
     of_refreshed(log::refresh(n, sweep, log, status))
 }
+
+// Update, Refresh for a log in parts: over the status bytes that the earlier parts gave, all 0 before the first.
+#[no_mangle]
+pub extern "C" fn deruvain_update(n: u32, sweep: u16, part: &[u8], status: &mut [u8]) -> Refreshed
+    ensures answer { λ r. ⌜ Skipped r (refreshing.refreshed n sweep (now (part .entry)) (now (status .entry))) ⌝ }
+    ensures boards { λ r. ⌜ now (status .exit) ≡ refreshing.updateAfter n sweep (now (part .entry)) (now (status .entry)) ⌝ }
+{
+    of_refreshed(log::update(n, sweep, part, status))
+}
+
+// The number for a record that is to get other status bytes: 0 where they fit, else 2.
+fn room_number(bytes: &[u8], status: &[u8]) -> u32
+    ensures { λ r. ⌜ r ≡ roomNumber (now (bytes .entry)) (now (status .entry)) ⌝ }
+{
+    if bytes.len() < 5 {
+        return 2;
+    }
+    if bytes.len() - 5 < status.len() {
+        return 2;
+    }
+    0
+}
+
+// Restate: the refusal's number, 0 for done.
+#[no_mangle]
+pub extern "C" fn deruvain_restate(bytes: &mut [u8], status: &[u8]) -> u32
+    ensures answer { λ r. ⌜ r ≡ roomNumber (now (bytes .entry)) (now (status .entry)) ⌝ }
+    ensures record { λ r. ⌜ now (bytes .exit) ≡ restated (now (bytes .entry)) (now (status .entry)) ⌝ }
+{
+    let number = room_number(bytes, status);
+    record::restate(bytes, status);
+    number
+}
+
+// For every input the contracts above allow one answer: what is said fixes each struct, and an equation each number and each lent slice.
+pub fn one_answer()
+    ensures decide { λ r. ⌜ Fixed Decided ⌝ }
+    ensures hop { λ r. ⌜ Fixed Hopped ⌝ }
+    ensures journey { λ r. ⌜ Fixed Travelled ⌝ }
+    ensures opened { λ r. ⌜ Fixed Read ⌝ }
+    ensures refresh { λ r. ⌜ Fixed Skipped ⌝ }
+{}
