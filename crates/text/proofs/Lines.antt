@@ -1,12 +1,14 @@
--- The laws of a listing's lines: how long they are, and that over Fill's vectors their bits are those of Definition 1.
-use mathlib.Core.Path.{_≡_, ap, _∙_}
+-- The laws of a listing's rows and lines: how long they are, and that over Fill's vectors their bits are those of Definition 1.
+use mathlib.Core.Path.{_≡_, refl, ap, _∙_}
 use mathlib.Core.Bool.{Bool, not, _&&_, and-eq-true-iff}
-use mathlib.Core.List.{List, _++_}
-use Prim.Native.Nat.{ℕ, suc, _+_, _^_, _≤_, _<_}
+use mathlib.Core.List.{List, [], _∷_, _++_}
+use Prim.Native.Nat.{ℕ, zero, suc, _+_, _^_, _≤_, _<_}
+use native.Mathlib.Numerals.{add-one}
 use native.Mathlib.Omega.{arith}
 use borrow.Author.Tests.{not-false, eqb-true, eq-eqb, le-leb}
 use lib.ListN.{length, getD, take, length-append}
 use lib.Seq.{length-take-le}
+use Rattle.cube.specs.Count.{one}
 use Rattle.cube.specs.Reply.{accepted, refusal}
 use Rattle.cube.proofs.Reply.{passed, kept-none}
 use Rattle.report.specs.Class.{classOf}
@@ -16,12 +18,32 @@ use Rattle.report.specs.declared.Class.the-variants.{Silent, Working, Late, Dow
 use Rattle.safety.specs.Safety.{bitsOf, vectors}
 use Rattle.vectors.specs.Fill.{fillRefusal, filled}
 use Rattle.held.proofs.Held.{own-safe}
-use Rattle.text.specs.Text.{spell, decimal, joined}
-use Rattle.text.specs.Put.{heldBits, Placed}
-use Rattle.text.specs.Listing.{titled, named, line, cubeText, listed}
-use Rattle.text.proofs.Text.{length-decimal, length-small, length-row, row-cong, joined-cong}
+use Rattle.lines.specs.Text.{spell, titled, joined}
+use Rattle.lines.proofs.Text.{length-decimal, length-titled, joined-cong}
+use Rattle.text.specs.Fit.{heldBits, Placed}
+use Rattle.text.specs.Listing.{row, named, line, lineOf, cubeText, listed}
 
-pub length-named : (k : Class) → length (named k) ≤ 7
+-- ---- rows of bits
+
+pub length-row : (p : ℕ → Bool) (n : ℕ) → length (row p n) ≡ n
+unfolding row
+length-row p zero = refl
+length-row p (suc n) = length-append (row p n) ((48 + one (p (suc n))) ∷ []) ∙ ap (λ (j : ℕ). j + 1) (length-row p n) ∙ add-one n
+
+-- one bit more
+pub row-next : (p : ℕ → Bool) (n : ℕ) → row p (n + 1) ≡ row p n ++ ((48 + one (p (n + 1))) ∷ [])
+unfolding row
+row-next p n = rw add-one
+
+-- rows of equal bits
+row-cong : (p q : ℕ → Bool) (n : ℕ) → ((k : ℕ) → k < n → p (suc k) ≡ q (suc k)) → row p n ≡ row q n
+unfolding row
+row-cong p q zero h = refl
+row-cong p q (suc n) h = rw (row-cong p q n (λ k l. h k (omega arith)), h n (omega arith))
+
+-- ---- lines
+
+length-named : (k : Class) → length (named k) ≤ 7
 length-named Silent = omega arith
 length-named Working = omega arith
 length-named Late = omega arith
@@ -29,16 +51,13 @@ length-named Down = omega arith
 length-named Empty = omega arith
 
 -- a line has at most 14 bytes besides its bits
-pub length-line : (n : ℕ) (status : List ℕ) (bits : ℕ → ℕ → Bool) (a : ℕ) → length (line n status bits a) ≤ 14 + n
-unfolding line
-length-line n status bits a =
-    simp length-append
-    (omega (arith, length-decimal a, length-named (classOf (getD status a 0)), length-row (bits a) n))
+pub length-line : (n : ℕ) (status : List ℕ) (bits : ℕ → ℕ → Bool) (a : ℕ) → a < 10000 → length (lineOf n status bits a) ≤ 14 + n
+unfolding lineOf line
+length-line n status bits a h = simp length-append (omega (arith, length-decimal a 3 h, length-named (classOf (getD status a 0)), length-row (bits a) n))
 
 -- the header of a cube
 pub length-header : (n : ℕ) → n ≤ 10 → length (titled (spell "cube") n) ≤ 8
-unfolding titled
-length-header n h = simp length-append (omega (arith, length-small n (omega arith)))
+length-header n h = length-titled (spell "cube") n 1 (omega arith)
 
 -- a report that Fill accepts has one status byte for each node
 pub accepted-status : (n : ℕ) (status links out : List ℕ) → fillRefusal (report n status links) out ≡ 0 → length status ≡ 2 ^ n
@@ -50,21 +69,22 @@ accepted-status n status links out e =
 
 -- over Fill's vectors the boards hold the bits of Definition 1
 filled-line : (n : ℕ) (status links : List ℕ) (a : ℕ) → a < 2 ^ n
-    → line n status (heldBits (vectors (cube (report n status links)))) a ≡ line n status (bitsOf (cube (report n status links))) a
-unfolding line heldBits bitsOf cube
+    → lineOf n status (heldBits (vectors (cube (report n status links)))) a ≡ lineOf n status (bitsOf (cube (report n status links))) a
+unfolding lineOf line heldBits bitsOf cube
 filled-line n status links a h =
-    ap (λ (r : List ℕ). decimal a ++ (spell " " ++ (named (classOf (getD status a 0)) ++ (spell " " ++ (r ++ spell "\n")))))
-    (row-cong (heldBits (vectors (cube (report n status links))) a) (bitsOf (cube (report n status links)) a) n (λ k l. own-safe (cube (report n status links)) (suc k) a (omega arith) h))
+    let C = cube (report n status links) in
+    rw (row-cong (heldBits (vectors C) a) (bitsOf C a) n (λ k l. own-safe C (suc k) a (omega arith) h))
 
 -- the header and the lines over what Fill leaves are the text of the cube
 pub cube-listed : (n : ℕ) (status links out vs : List ℕ) → fillRefusal (report n status links) out ≡ 0 → vs ≡ filled (report n status links) out
-    → titled (spell "cube") n ++ joined (line n status (heldBits vs)) (length status) ≡ listed (accepted n) status links
+    → titled (spell "cube") n ++ joined (lineOf n status (heldBits vs)) (length status) ≡ listed (accepted n) status links
 unfolding listed cubeText filled
 cube-listed n status links out vs none e =
-    let full : vs ≡ vectors (cube (report n status links)) = e ∙ kept-none (fillRefusal (report n status links) out) _ _ none in
+    let C = cube (report n status links) in
+    let full : vs ≡ vectors C = e ∙ kept-none (fillRefusal (report n status links) out) _ _ none in
     rw (full, accepted-status n status links out none)
     (ap (λ (t : List ℕ). titled (spell "cube") n ++ t)
-    (joined-cong (line n status (heldBits (vectors (cube (report n status links))))) (line n status (bitsOf (cube (report n status links)))) (2 ^ n) (filled-line n status links)))
+    (joined-cong (lineOf n status (heldBits (vectors C))) (lineOf n status (bitsOf C)) (2 ^ n) (filled-line n status links)))
 
 -- an accepted report at the start of longer slices is one that Fill accepts
 pub report-fills : (n : ℕ) (status links vs : List ℕ) → Placed n status links → 2 ^ n ≤ length vs

@@ -1,3 +1,4 @@
+-- `text::put_class` meets its contract: each arm is one case of the name.
 use borrow.Author.Needs.{needs}
 use Rattle.text.proofs.put_class.Statement.{statement}
 use Rattle.text.proofs.put_class.Tie as tie

@@ -49,15 +49,15 @@ part-vectors-end : tie.Need-part-vectors-end
 part-vectors-end c =
     let s = c .before .before .before .before .before .before .before in
     let n = s .args .n in
-    omega (arith, nodes n (s .pre .0 .high), pow-mono {i = n} {j = 10} (s .pre .0 .high), c .before .before .before .room .ensures)
+    omega (arith, nodes n (s .pre .high), pow-mono {i = n} {j = 10} (s .pre .high), c .before .before .before .room .ensures)
 
 put-cube-requires : tie.Need-put-cube-requires
 put-cube-requires c κs =
     let s = c .before .before .before .before .before .before .before .before in
     let a = s .args in
     let room = c .before .before .before .before .room in
-    let h : 2 ^ a .n ≤ length (room .result) = omega (arith, pow-mono {i = a .n} {j = 10} (s .pre .0 .high), room .ensures) in
-    (s .pre .0 .high, rw (sub-zero, nodes (a .n) (s .pre .0 .high)) (report-fills (a .n) (now (a .status)) (now (a .links)) (room .result) (s .pre .0) h), omega arith)
+    let h : 2 ^ a .n ≤ length (room .result) = omega (arith, pow-mono {i = a .n} {j = 10} (s .pre .high), room .ensures) in
+    (s .pre .high, rw (sub-zero, nodes (a .n) (s .pre .high)) (report-fills (a .n) (now (a .status)) (now (a .links)) (room .result) (s .pre) h))
 
 same-length : tie.Need-same-length
 same-length c = search needs
@@ -65,7 +65,7 @@ same-length c = search needs
 returns : tie.Need-returns
 returns c =
     let s = c .before .before .before .before .before .before .before .before .before .before .before .before in
-    rw (sub-zero, nodes (s .args .n) (s .pre .0 .high)) at (c .before .before .before .put-cube .ensures)
+    rw (sub-zero, nodes (s .args .n) (s .pre .high)) at (c .before .before .before .put-cube .ensures)
 
 pub put-report-spec : {M : Type 1} → statement M
 put-report-spec =

@@ -1,19 +1,13 @@
--- Text put into a lent buffer.
-use Prim.Native.Nat.{ℕ, _+_, _^_, _≤_, _<_}
+-- What the listing's private functions are given: bits as held, and an accepted report at the start of two slices.
+use Prim.Native.Nat.{ℕ, _^_, _≤_, _<_}
 use mathlib.Core.Path.{_≡_}
 use mathlib.Core.Bool.{Bool, true}
 use mathlib.Core.List.{List}
 use lib.ListN.{length, take}
-use lib.Seq.{sets}
 use Rattle.cube.specs.Reply.{Reply, refused, accepted}
 use Rattle.report.specs.Report.{narrow}
 use Rattle.held.specs.Held.{own}
 use Rattle.text.specs.Listing.{listed}
-
--- the text stands from place at on, all other places are as before, and next is the place after it
-pub record Put (text : List ℕ) (at : ℕ) (old new : List ℕ) (next : ℕ) : Type 0 where
-  pub after : next ≡ at + length text
-  pub stands : new ≡ sets old at text
 
 -- own bit k of node a as the boards hold it, the node first
 unfoldable pub heldBits : List ℕ → ℕ → ℕ → Bool
