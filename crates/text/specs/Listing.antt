@@ -22,6 +22,10 @@ named Late = spell "late"
 named Down = spell "down"
 named Empty = spell "empty"
 
+-- the name of a class between two spaces
+unfoldable pub spaced : Class → List ℕ
+spaced class = spell " " ++ (named class ++ spell " ")
+
 -- p 1 to p n as one row of digits
 unfoldable pub row : (ℕ → Bool) → ℕ → List ℕ
 row p zero = []
@@ -29,7 +33,7 @@ row p (suc n) = row p n ++ ((48 + one (p (suc n))) ∷ [])
 
 -- the line of node a: its number, its class, and its bits from 1 to n
 unfoldable pub line : ℕ → Class → (ℕ → Bool) → ℕ → List ℕ
-line n class bits a = decimal a ++ (spell " " ++ (named class ++ (spell " " ++ (row bits n ++ spell "\n"))))
+line n class bits a = decimal a ++ (spaced class ++ (row bits n ++ spell "\n"))
 
 -- the line of node a, of the class that its status byte gives
 unfoldable pub lineOf : ℕ → List ℕ → (ℕ → ℕ → Bool) → ℕ → List ℕ

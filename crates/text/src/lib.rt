@@ -8,11 +8,11 @@ use record::Opened;
 use report::Class;
 ghost use mathlib.Core.Path.{_≡_};
 ghost use mathlib.Core.List.{_++_};
-ghost use Prim.Native.Nat.{_≤_};
-ghost use lib.ListN.{length, drop, replicate};
+ghost use Prim.Native.Nat.{_^_, _≤_};
+ghost use lib.ListN.{length, take, drop, replicate};
 ghost use Rattle.cube.specs.Reply.{accepted};
-ghost use Rattle.report.specs.Report.{report};
-ghost use Rattle.vectors.specs.Fill.{fillRefusal};
+ghost use Rattle.report.specs.Report.{report, cube};
+ghost use Rattle.safety.specs.Safety.{vectors};
 ghost use Rattle.record.specs.Open.{said};
 ghost use Rattle.io.specs.Counts.{Counts};
 ghost use Rattle.lines.specs.Text.{joined};
@@ -30,17 +30,49 @@ pub fn buffer() -> [u8; LONGEST]
     [0; LONGEST]
 }
 
-// Puts the name of a class.
-fn put_class(out: &mut [u8], at: usize, class: Class) -> usize
-    ensures { λ r. ⌜ Put (spec.named class) at (now (out .entry)) (now (out .exit)) r ⌝ }
+// The name of a class between two spaces, with its size.
+struct Name {
+    bytes: [u8; 9],
+    size: usize,
+}
+
+// The name of a class between two spaces.
+fn name_of(class: Class) -> Name
+    ensures { λ r. ⌜ Counts (r .size) (r .bytes) ⌝ }
+    ensures { λ r. ⌜ take (r .size) (r .bytes) ≡ spec.spaced class ⌝ }
 {
     match class {
-        Class::Silent => put(out, at, b"silent"),
-        Class::Working => put(out, at, b"working"),
-        Class::Late => put(out, at, b"late"),
-        Class::Down => put(out, at, b"down"),
-        Class::Empty => put(out, at, b"empty"),
+        Class::Silent => Name {
+            bytes: *b" silent  ",
+            size: 8,
+        },
+        Class::Working => Name {
+            bytes: *b" working ",
+            size: 9,
+        },
+        Class::Late => Name {
+            bytes: *b" late    ",
+            size: 6,
+        },
+        Class::Down => Name {
+            bytes: *b" down    ",
+            size: 6,
+        },
+        Class::Empty => Name {
+            bytes: *b" empty   ",
+            size: 7,
+        },
     }
+}
+
+// Puts the name of a class between two spaces.
+fn put_class(out: &mut [u8], at: usize, class: Class) -> usize
+    ensures { λ r. ⌜ Put (spec.spaced class) at (now (out .entry)) (now (out .exit)) r ⌝ }
+{
+    let name = name_of(class);
+    let bytes = name.bytes;
+    let size = name.size;
+    put(out, at, &bytes[..size])
 }
 
 // Puts the own bits 1 to n of a node as one row of digits.
@@ -66,41 +98,33 @@ fn put_line(out: &mut [u8], at: usize, n: u32, class: Class, vectors: &[u16], a:
         ⌜ Put line at (now (out .entry)) (now (out .exit)) r ⌝ }
 {
     let numbered = put_number(out, at, a.0 as u64);
-    let spaced = put_byte(out, numbered, b' ');
-    let classed = put_class(out, spaced, class);
-    let parted = put_byte(out, classed, b' ');
-    let ended = put_bits(out, parted, n, vectors, a);
+    let classed = put_class(out, numbered, class);
+    let ended = put_bits(out, classed, n, vectors, a);
     put_byte(out, ended, b'\n')
 }
 
-// Puts the lines of all nodes, one for each status byte.
-fn put_lines(out: &mut [u8], at: usize, n: u32, status: &[u8], vectors: &[u16]) -> usize
-    requires { ⌜ length (now status) ≤ 1024 ⌝ }
+// Puts the lines of the first nodes.
+fn put_lines(
+    out: &mut [u8],
+    at: usize,
+    n: u32,
+    nodes: usize,
+    status: &[u8],
+    vectors: &[u16],
+) -> usize
+    requires { ⌜ (nodes ≤ 1024) × (nodes ≤ length (now status)) ⌝ }
     ensures { λ r.
-        let status = now (status .entry) in
-        let lines = joined (spec.lineOf n status (heldBits (now (vectors .entry)))) (length status) in
+        let lines = joined (spec.lineOf n (now (status .entry)) (heldBits (now (vectors .entry)))) nodes in
         ⌜ Put lines at (now (out .entry)) (now (out .exit)) r ⌝ }
 {
     let mut end = at;
     let mut a: usize = 0;
-    while a < status.len() {
+    while a < nodes {
         let class = report::class_of(status[a]);
         end = put_line(out, end, n, class, vectors, Node(a as u16));
         a += 1;
     }
     end
-}
-
-// Puts the listing of a report that Open accepted, so that Fill accepts it too.
-fn put_cube(out: &mut [u8], n: u32, status: &[u8], links: &[u16], vectors: &mut [u16]) -> usize
-    requires { ⌜ (n ≤ 10) × (fillRefusal (report n (now status) (now links)) (now vectors) ≡ 0) ⌝ }
-    ensures { λ r.
-        let text = spec.listed (accepted n) (now (status .entry)) (now (links .entry)) in
-        ⌜ Put text 0 (now (out .entry)) (now (out .exit)) r ⌝ }
-{
-    vectors::fill(n, status, links, vectors);
-    let titled = put_titled(out, 0, b"cube", n as u64);
-    put_lines(out, titled, n, status, vectors)
 }
 
 // Room for the vectors of the largest cube.
@@ -110,22 +134,35 @@ fn room() -> [u16; 1024]
     [0; 1024]
 }
 
+// The vectors of an accepted report of dimension n, which stands at the start of the slices.
+fn vectors_of(n: u32, status: &[u8], links: &[u16]) -> [u16; 1024]
+    requires { ⌜ Fit (accepted n) (now status) (now links) ⌝ }
+    ensures { λ r. ⌜ 1024 ≡ length r ⌝ }
+    ensures { λ r.
+        let R = report n (take (2 ^ n) (now (status .entry))) (take (2 ^ n) (now (links .entry))) in
+        ⌜ take (2 ^ n) r ≡ vectors (cube R) ⌝ }
+{
+    let nodes: usize = 1 << n;
+    let mut vectors = room();
+    vectors::fill(
+        n,
+        &status[0..nodes],
+        &links[0..nodes],
+        &mut vectors[0..nodes],
+    );
+    vectors
+}
+
 // Puts the listing of an accepted report of dimension n, which stands at the start of the slices.
-fn put_report(out: &mut [u8], n: u32, status: &[u8], links: &[u16]) -> usize
+fn put_cube(out: &mut [u8], n: u32, status: &[u8], links: &[u16]) -> usize
     requires { ⌜ Fit (accepted n) (now status) (now links) ⌝ }
     ensures { λ r.
         let text = listedOf (accepted n) (now (status .entry)) (now (links .entry)) in
         ⌜ Put text 0 (now (out .entry)) (now (out .exit)) r ⌝ }
 {
-    let nodes: usize = 1 << n;
-    let mut vectors = room();
-    put_cube(
-        out,
-        n,
-        &status[0..nodes],
-        &links[0..nodes],
-        &mut vectors[0..nodes],
-    )
+    let vectors = vectors_of(n, status, links);
+    let titled = put_titled(out, 0, b"cube", n as u64);
+    put_lines(out, titled, n, 1 << n, status, &vectors)
 }
 
 // Puts the listing of what Open answered, the report standing at the start of the slices.
@@ -136,7 +173,7 @@ fn put_opened(out: &mut [u8], opened: Opened, status: &[u8], links: &[u16]) -> u
         ⌜ Put text 0 (now (out .entry)) (now (out .exit)) r ⌝ }
 {
     match opened {
-        Opened::Cube(n) => put_report(out, n, status, links),
+        Opened::Cube(n) => put_cube(out, n, status, links),
         Opened::Refused(number) => put_titled(out, 0, b"refused", number as u64),
     }
 }

@@ -7,10 +7,10 @@ use denote.Ref.{now}
 use Rattle.cube.proofs.Count.{one-le}
 use Rattle.held.specs.Held.{own}
 use Rattle.lines.specs.Put.{Put}
-use Rattle.lines.proofs.Placing.{put-none, put-then, put-length}
+use Rattle.lines.proofs.Placing.{put-none, put-length}
 use Rattle.text.specs.Listing.{row}
 use Rattle.text.specs.Fit.{heldBits}
-use Rattle.text.proofs.Lines.{row-next}
+use Rattle.text.proofs.Lines.{row-put}
 use Rattle.text.proofs.put_bits.Statement.{statement}
 use Rattle.text.proofs.put_bits.Tie as tie
 
@@ -19,6 +19,14 @@ Inv-loop out₀ at n vectors a end₀ k₀ out end k = (k ≤ n) × Put (row (he
 
 abbrev μ-loop : tie.MeasureT-loop
 μ-loop out₀ at n vectors a end₀ k₀ out end k = n - k
+
+loop-again : tie.Need-loop-again Inv-loop μ-loop
+unfolding heldBits
+loop-again c =
+    let t = c .before .before .before .before .before .before in
+    let a = t .before .before .before .args in
+    let bit = c .before .before .before .before .own in
+    (omega arith, row-put (heldBits (now (a .vectors)) (a .a .0)) (t .loop .k) (bit .ensures) (t .loop .inv .1) (c .before .before .put-byte .ensures))
 
 loop-holds : tie.Need-loop-holds Inv-loop μ-loop
 unfolding row
@@ -51,13 +59,6 @@ add-k c = search needs
 
 loop-less : tie.Need-loop-less Inv-loop μ-loop
 loop-less c = search needs
-
-loop-again : tie.Need-loop-again Inv-loop μ-loop
-unfolding heldBits
-loop-again c =
-    let t = c .before .before .before .before .before .before in
-    let bit = c .before .before .before .before .own in
-    (omega arith, rw (row-next, ← bit .ensures) (put-then (t .loop .inv .1) (c .before .before .put-byte .ensures)))
 
 same-length : tie.Need-same-length Inv-loop μ-loop
 same-length c = put-length (c .before .loop .inv .1)

@@ -11,20 +11,14 @@ cast-put-number c = search needs
 put-number-requires : tie.Need-put-number-requires
 put-number-requires c κs = search needs
 
-put-byte-requires : tie.Need-put-byte-requires
-put-byte-requires c κs = search needs
-
 put-class-requires : tie.Need-put-class-requires
 put-class-requires c κs = search needs
-
-put-byte-requires-2 : tie.Need-put-byte-requires-2
-put-byte-requires-2 c κs = search needs
 
 put-bits-requires : tie.Need-put-bits-requires
 put-bits-requires c κs = search needs
 
-put-byte-requires-3 : tie.Need-put-byte-requires-3
-put-byte-requires-3 c κs = search needs
+put-byte-requires : tie.Need-put-byte-requires
+put-byte-requires c κs = search needs
 
 same-length : tie.Need-same-length
 same-length c = search needs
@@ -34,14 +28,9 @@ unfolding line
 returns c =
     let end = c .before .before in
     let bits = end .before .before .before .before in
-    let parted = bits .before .before .before .before in
-    let class = parted .before .before .before .before in
-    let spaced = class .before .before .before .before in
-    let number = spaced .before .before .before .before in
-    put-then (number .put-number .ensures)
-    (put-then (spaced .put-byte .ensures)
-    (put-then (class .put-class .ensures)
-    (put-then (parted .put-byte2 .ensures) (put-then (bits .put-bits .ensures) (end .put-byte3 .ensures)))))
+    let class = bits .before .before .before .before in
+    let number = class .before .before .before .before in
+    put-then (number .put-number .ensures) (put-then (class .put-class .ensures) (put-then (bits .put-bits .ensures) (end .put-byte .ensures)))
 
 pub put-line-spec : {M : Type 1} → statement M
 put-line-spec =
@@ -49,10 +38,8 @@ put-line-spec =
     (tie.spec
     cast-put-number
     put-number-requires
-    put-byte-requires
     put-class-requires
-    put-byte-requires-2
     put-bits-requires
-    put-byte-requires-3
+    put-byte-requires
     same-length
     returns)

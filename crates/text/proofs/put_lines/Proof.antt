@@ -3,8 +3,6 @@ use borrow.Author.Needs.{needs}
 use mathlib.Core.Path.{_≡_}
 use Prim.Native.Nat.{_-_, _≤_}
 use native.Mathlib.Omega.{arith}
-use lib.ListN.{length}
-use denote.Ref.{now}
 use Rattle.lines.specs.Text.{joined}
 use Rattle.lines.specs.Put.{Put}
 use Rattle.lines.proofs.Placing.{put-none, put-then, put-length}
@@ -15,10 +13,10 @@ use Rattle.text.proofs.put_lines.Statement.{statement}
 use Rattle.text.proofs.put_lines.Tie as tie
 
 abbrev Inv-loop : tie.InvT-loop
-Inv-loop out₀ at n status vectors end₀ a₀ out end a = (a ≤ length status) × Put (joined (lineOf n status (heldBits vectors)) a) at out₀ out end
+Inv-loop out₀ at n nodes status vectors end₀ a₀ out end a = (a ≤ nodes) × Put (joined (lineOf n status (heldBits vectors)) a) at out₀ out end
 
 abbrev μ-loop : tie.MeasureT-loop
-μ-loop out₀ at n status vectors end₀ a₀ out end a = length status - a
+μ-loop out₀ at n nodes status vectors end₀ a₀ out end a = nodes - a
 
 loop-holds : tie.Need-loop-holds Inv-loop μ-loop
 unfolding joined
@@ -54,7 +52,7 @@ same-length c = put-length (c .before .loop .inv .1)
 
 returns : tie.Need-returns Inv-loop μ-loop
 returns c =
-    let e : c .before .loop .a ≡ length (now (c .before .before .before .before .before .args .status)) = omega arith in
+    let e : c .before .loop .a ≡ c .before .before .before .before .before .args .nodes = omega arith in
     rw (← e) (c .before .loop .inv .1)
 
 pub put-lines-spec : {M : Type 1} → statement M

@@ -7,8 +7,8 @@ use Rattle.text.proofs.put_opened.Tie as tie
 enum-known-opened : tie.Need-enum-known-opened
 enum-known-opened c = search needs
 
-put-report-requires : tie.Need-put-report-requires
-put-report-requires c κs = rw (c .before .before .opened .given .1) at (c .before .before .before .before .before .before .before .pre)
+put-cube-requires : tie.Need-put-cube-requires
+put-cube-requires c κs = rw (c .before .before .opened .given .1) at (c .before .before .before .before .before .before .before .pre)
 
 enum-known-opened-2 : tie.Need-enum-known-opened-2
 enum-known-opened-2 c = search needs
@@ -26,7 +26,7 @@ same-length : tie.Need-same-length
 same-length c = search needs
 
 returns : tie.Need-returns
-returns c = rw (c .before .before .before .before .before .opened .given .1) (c .before .before .put-report .ensures)
+returns c = rw (c .before .before .before .before .before .opened .given .1) (c .before .before .put-cube .ensures)
 
 same-length-2 : tie.Need-same-length-2
 same-length-2 c = search needs
@@ -40,7 +40,7 @@ put-opened-spec =
     tie.close
     (tie.spec
     enum-known-opened
-    put-report-requires
+    put-cube-requires
     enum-known-opened-2
     slice-aggregate-put-titled
     cast-put-titled
