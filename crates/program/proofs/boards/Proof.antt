@@ -1,10 +1,10 @@
--- `words::boards` meets its contract.
+-- `program::boards` meets its contract.
 use native.Mathlib.Nat.{one-mul, mod-eq-of-lt}
 use native.Mathlib.Omega.{arith}
 use lib.Pow.{pow-lt, pow-mono}
 use borrow.Author.Needs.{needs}
-use Rattle.words.proofs.boards.Statement.{statement}
-use Rattle.words.proofs.boards.Tie as tie
+use Rattle.program.proofs.boards.Statement.{statement}
+use Rattle.program.proofs.boards.Tie as tie
 
 shl-result : tie.Need-shl-result
 shl-result c = search needs

@@ -1,11 +1,11 @@
--- `refresh::read_all` is safe and ends, within the room.
+-- `program::read_all` is safe and ends, within the room.
 use borrow.Author.Needs.{needs}
 use Prim.Native.Nat.{_-_, _≤_}
 use mathlib.Core.Path.{_≡_}
 use lib.ListN.{length}
 use Rattle.io.proofs.Counting.{counts}
-use Rattle.refresh.proofs.read_all.Statement.{statement}
-use Rattle.refresh.proofs.read_all.Tie as tie
+use Rattle.program.proofs.read_all.Statement.{statement}
+use Rattle.program.proofs.read_all.Tie as tie
 
 abbrev Inv-loop : tie.InvT-loop
 Inv-loop fd room₀ at₀ room at = (at ≤ length room) × (length room ≡ length room₀)

@@ -1,8 +1,8 @@
--- `words::too_wide` is safe and ends.
+-- `program::too_wide` is safe and ends.
 use borrow.Author.Needs.{needs}
 use Prim.Native.Nat.{_-_, _≤_}
-use Rattle.words.proofs.too_wide.Statement.{statement}
-use Rattle.words.proofs.too_wide.Tie as tie
+use Rattle.program.proofs.too_wide.Statement.{statement}
+use Rattle.program.proofs.too_wide.Tie as tie
 
 abbrev Inv-loop : tie.InvT-loop
 Inv-loop bytes boards a₀ a = a ≤ boards
