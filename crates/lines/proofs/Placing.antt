@@ -49,9 +49,10 @@ pub put-next : (word : List ℕ) (i : ℕ) {old new₁ new₂ : List ℕ} {at ne
 put-next word i h p q = rw (add-one, take-suc word i 0) (put-then p q)
 
 -- a text at the start of a buffer that has room for it
-pub put-whole : (t old new : List ℕ) (r : ℕ) → Put t 0 old new r → length t ≤ length old → Counts r new × ((r ≡ length t) × (new ≡ t ++ drop r old))
-put-whole t old new r p h =
+pub put-whole : {t old new : List ℕ} {r : ℕ} → Put t 0 old new r → length t ≤ length old → Counts r new × ((r ≡ length t) × (new ≡ t ++ drop r old))
+put-whole {t} {old} {new} {r} p h =
     let size : r ≡ length t = omega (arith, p .after) in
-    let whole : new ≡ t ++ drop r old = p .stands ∙ sets-eq t old 0 (omega arith) ∙ ap (λ (k : ℕ). t ++ drop k old) (let e : 0 + length t ≡ r = omega arith in e) in
+    let end : 0 + length t ≡ r = omega arith in
+    let whole : new ≡ t ++ drop r old = p .stands ∙ sets-eq t old 0 (omega arith) ∙ ap (λ (k : ℕ). t ++ drop k old) end in
     let long : r ≤ length new = omega (arith, put-length p) in
     ((long, sym (length-take-le r new long)), (size, whole))

@@ -15,13 +15,16 @@ use Rattle.lines.specs.Text.{tens, decimal, valued, titled, joined}
 
 -- ---- numbers
 
+tens-mono : (i j : ℕ) → i ≤ j → 10 ^ i ≤ 10 ^ j
+tens-mono i j h = pow-le-pow-right {n = 10} (omega arith) {i = i} {j = j} h
+
 tens-fewest : (m n k : ℕ) → k ≤ m → n < 10 ^ suc k → (0 < k → 10 ^ k ≤ n) → tens m n ≡ k
 unfolding tens
 tens-fewest zero n k h below above = omega arith
 tens-fewest (suc m) n k h below above =
     ⊎-elim
     (λ (e : k ≡ suc m). rw (le-ltb n (10 ^ suc m) (rw (← e) (above (omega arith)))) (sym e))
-    (λ (l : k < suc m). rw (lt-ltb n (10 ^ suc m) (omega (arith, pow-le-pow-right {n = 10} (omega arith) {i = suc k} {j = suc m} (omega arith)))) (tens-fewest m n k (omega arith) below above))
+    (λ (l : k < suc m). rw (lt-ltb n (10 ^ suc m) (omega (arith, tens-mono (suc k) (suc m) l))) (tens-fewest m n k (omega arith) below above))
     (eq-or-lt-of-le h)
 
 -- the fewest digits that hold a number are those of `decimal`
@@ -34,7 +37,7 @@ decimal-fewest n (suc k) h f = ap (λ (j : ℕ). digits 10 (suc j) n) (sym (tens
     above l = let e : suc k - 1 ≡ k = omega arith in rw e at (f .2 (omega arith))
 
     few : k ≤ 19
-    few = by-contra k 19 (λ l. omega (arith, above (omega arith), pow-le-pow-right {n = 10} (omega arith) {i = 20} {j = k} l))
+    few = by-contra k 19 (λ l. omega (arith, above (omega arith), tens-mono 20 k l))
 
 length-digits : (k n : ℕ) → length (digits 10 k n) ≡ k
 length-digits zero n = refl
@@ -47,7 +50,7 @@ tens-le (suc m) n k h = go (ltb n (10 ^ suc m)) refl (tens-le m n k h)
   where
     go : (b : Bool) → ltb n (10 ^ suc m) ≡ b → tens m n ≤ k → cond b (tens m n) (suc m) ≤ k
     go true e below = below
-    go false e below = by-contra (suc m) k (λ l. omega (arith, ltb-false n (10 ^ suc m) e, pow-le-pow-right {n = 10} (omega arith) {i = suc k} {j = suc m} l))
+    go false e below = by-contra (suc m) k (λ l. omega (arith, ltb-false n (10 ^ suc m) e, tens-mono (suc k) (suc m) l))
 
 -- a number below 10^k has at most k digits, and one at least
 pub length-decimal : (n k : ℕ) → n < 10 ^ suc k → length (decimal n) ≤ suc k

@@ -19,7 +19,10 @@ same-length c = search needs
 
 returns : tie.Need-returns
 unfolding valued
-returns c = put-then (c .before .before .before .before .before .before .before .before .before .before .put-byte .ensures) (put-then (c .before .before .before .before .before .before .put-number .ensures) (c .before .before .put-byte2 .ensures))
+returns c =
+    let number = c .before .before .before .before .before .before in
+    let space = number .before .before .before .before in
+    put-then (space .put-byte .ensures) (put-then (number .put-number .ensures) (c .before .before .put-byte2 .ensures))
 
 pub put-value-spec : {M : Type 1} → statement M
 put-value-spec =

@@ -13,7 +13,9 @@ returns : tie.Need-returns
 returns c = search needs
 
 returns-2 : tie.Need-returns-2
-returns-2 c = rw (one-mul, mod-eq-of-lt (pow-lt {i = c .before .args .n} {j = 64} (omega arith))) (omega (arith, pow-mono {i = c .before .args .n} {j = 10} (omega arith)))
+returns-2 c =
+    let n = c .before .args .n in
+    rw (one-mul, mod-eq-of-lt (pow-lt {i = n} {j = 64} (omega arith))) (omega (arith, pow-mono {i = n} {j = 10} (omega arith)))
 
 pub boards-spec : {M : Type 1} → statement M
 boards-spec = tie.close (tie.spec shl-result returns returns-2)

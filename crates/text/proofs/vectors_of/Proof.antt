@@ -55,7 +55,8 @@ returns c =
     let s = c .before .before .before .before .before .before .before .before in
     let a = s .args in
     let h : 2 ^ a .n ≤ length (room .result) = omega (arith, pow-mono {i = a .n} {j = 10} (s .pre .high), room .ensures) in
-    let first = filled-first (a .n) (now (a .status)) (now (a .links)) (room .result) _ _ (sub-zero _ ∙ nodes-of (a .n) (s .pre .high)) (s .pre) h (c .before .fill .ensures .1) in
+    let nodes = sub-zero _ ∙ nodes-of (a .n) (s .pre .high) in
+    let first = filled-first (a .n) (now (a .status)) (now (a .links)) (room .result) _ _ nodes (s .pre) h (c .before .fill .ensures .1) in
     (room .ensures ∙ first .0, first .1)
 
 pub vectors-of-spec : {M : Type 1} → statement M
