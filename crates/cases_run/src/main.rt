@@ -39,12 +39,6 @@ fn room() -> [u8; ROOM]
     [0; ROOM]
 }
 
-// Whether the input has come to its end; a failed read says that it hasn't.
-fn ended() -> bool {
-    let mut more = [0u8; 1];
-    libc::read(STDIN_FILENO, &mut more) >= 0
-}
-
 // Runs the case of each line.
 fn cases(text: &[u8]) {
     let mut at: usize = 0;
@@ -61,12 +55,13 @@ fn cases(text: &[u8]) {
 // Reads all cases, then runs them.
 fn main() {
     let mut text = room();
-    let count = io::read_full(STDIN_FILENO, &mut text);
+    let input = program::read_all(STDIN_FILENO, &mut text);
+    if input.failed {
+        return say::say(b"cases_run: standard input can't be read\n");
+    }
+    let count = input.count;
     if count == ROOM {
         return say::say(b"cases_run: standard input is longer than 131072 bytes\n");
-    }
-    if !ended() {
-        return say::say(b"cases_run: standard input can't be read\n");
     }
     cases(&text[..count]);
 }

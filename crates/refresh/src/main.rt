@@ -3,20 +3,14 @@ use libc::STDIN_FILENO;
 use libc::STDOUT_FILENO;
 use log::Refreshed;
 use log::Sweep;
+use program::read_all;
+use program::say;
+use program::say_with;
 use record::Opened;
 use record::word_at;
 use report::Class;
-use words::say;
-use words::say_with;
 ghost use Prim.Native.Nat.{_≤_};
 ghost use lib.ListN.{length};
-ghost use Rattle.io.specs.Counts.{Counts};
-
-// What came of an input: how many bytes, and whether reading failed.
-struct Input {
-    count: usize,
-    failed: bool,
-}
 
 // How the reading of a log stands: the records read, those of them skipped, whether there is more to read, and whether all was read.
 struct Reading {
@@ -31,31 +25,6 @@ struct Tally {
     silent: usize,
     working: usize,
     late: usize,
-}
-
-// Reads until an input ends or the room is full.
-fn read_all(fd: i32, room: &mut [u8]) -> Input
-    ensures { λ r. ⌜ Counts (r .count) (now (room .exit)) ⌝ }
-{
-    let mut at: usize = 0;
-    while at < room.len() {
-        let got = libc::read(fd, &mut room[at..]);
-        if got < 0 {
-            return Input {
-                count: at,
-                failed: true,
-            };
-        }
-        let more = io::count(got, &room[at..]);
-        if more == 0 {
-            break;
-        }
-        at += more;
-    }
-    Input {
-        count: at,
-        failed: false,
-    }
 }
 
 // Two counts together, or the largest there is.
@@ -86,13 +55,17 @@ fn malformed(row: &[u8], which: u64) {
     if row.len() < 8 {
         say_with(
             b"the log ends within its record #: # of 8 bytes came\n",
-            &[which, row.len() as u64],
+            which,
+            row.len() as u64,
+            0,
         );
         return;
     }
     say_with(
         b"the log's record # has length # and kind #, and a status record has 6 and 2\n",
-        &[which, word_at(row, 0) as u64, word_at(row, 2) as u64],
+        which,
+        word_at(row, 0) as u64,
+        word_at(row, 2) as u64,
     );
 }
 
@@ -101,12 +74,14 @@ fn refused(number: u32, before: usize, part: &[u8], n: u32) {
     let at = first_refused(part, n);
     let row = &part[at..];
     let which = both(before, at / 8 + 1) as u64;
-    say_with(b"refresh: refused #: ", &[number as u64]);
+    say_with(b"refresh: refused #: ", number as u64, 0, 0);
     match number {
         11 => malformed(row, which),
         12 => say_with(
             b"the log's record # names node #, which a cabinet of # boards lacks\n",
-            &[which, word_at(row, 6) as u64, words::boards(n) as u64],
+            which,
+            word_at(row, 6) as u64,
+            program::boards(n) as u64,
         ),
         _ => say(b"the log is refused\n"),
     }
@@ -219,21 +194,23 @@ fn counted(status: &[u8]) -> Tally {
 fn tell(reading: Reading, sweep: u16, status: &[u8]) {
     say_with(
         b"refresh: records read: #, of these from the future and skipped: #\n",
-        &[reading.records as u64, reading.skipped as u64],
+        reading.records as u64,
+        reading.skipped as u64,
+        0,
     );
     let boards = counted(status);
     say_with(
         b"refresh: boards silent: #, working: #, late: #\n",
-        &[
-            boards.silent as u64,
-            boards.working as u64,
-            boards.late as u64,
-        ],
+        boards.silent as u64,
+        boards.working as u64,
+        boards.late as u64,
     );
     if boards.working == 0 {
         say_with(
             b"refresh: warning: no board works at sweep #; is that the present sweep?\n",
-            &[sweep as u64],
+            sweep as u64,
+            0,
+            0,
         );
     }
 }
@@ -256,11 +233,11 @@ fn with_record(opened: Opened, fd: i32, sweep: u16, bytes: &mut [u8]) {
     match opened {
         Opened::Cube(n) => {
             let mut space = [0u8; 1024];
-            let status: &mut [u8] = &mut space[0..words::boards(n)];
+            let status: &mut [u8] = &mut space[0..program::boards(n)];
             let reading = read_log(fd, n, sweep, status);
             print(reading, sweep, bytes, status);
         },
-        Opened::Refused(number) => words::refused(b"refresh", bytes, number),
+        Opened::Refused(number) => program::refused(b"refresh", bytes, number),
     }
 }
 
@@ -274,7 +251,7 @@ fn with_log(fd: i32, sweep: u16) {
     }
     let count = input.count;
     if 4096 < count {
-        words::refused(b"refresh", &bytes, 10);
+        program::refused(b"refresh", &bytes, 10);
         return;
     }
     let mut status = [0u8; 1024];

@@ -1,25 +1,22 @@
 -- What Open answers over two slices of 1,024 places, and the text of its answer.
-use mathlib.Core.Path.{_≡_, refl, ap, sym, _∙_}
+use mathlib.Core.Path.{_≡_, refl, ap, sym}
 use mathlib.Core.Bool.{Bool}
 use mathlib.Core.List.{List, _++_}
-use Prim.Native.Nat.{ℕ, zero, suc, _+_, _^_, _≤_}
-use native.Mathlib.Nat.{zero-add}
+use Prim.Native.Nat.{ℕ, zero, suc, _^_, _≤_, _<_}
 use native.Mathlib.Omega.{arith}
 use lib.ListN.{length, take, drop, length-append}
 use lib.Pow.{pow-mono}
-use lib.Seq.{take-at, sets-eq, length-take-le}
-use Rattle.io.specs.Counts.{Counts}
+use lib.Seq.{take-at}
 use Rattle.cube.specs.Reply.{Reply, refused, accepted}
 use Rattle.report.specs.Report.{report, cube}
 use Rattle.safety.specs.Safety.{bitsOf}
 use Rattle.record.specs.Open.{nIn, statusIn, linksIn, openRefusal, opened, statusOpened, linksOpened}
 use Rattle.record.proofs.Fields.{count-status, count-links}
 use Rattle.record.proofs.Refusals.{Readable, readable, after-reading, after-refusal, open-refusal-le}
-use Rattle.text.specs.Text.{spell, joined}
-use Rattle.text.specs.Listing.{titled, line, cubeText, listed, places}
-use Rattle.text.specs.Put.{Put, Fit, listedOf}
-use Rattle.text.proofs.Placing.{put-length}
-use Rattle.text.proofs.Text.{length-decimal, length-joined}
+use Rattle.lines.specs.Text.{spell, titled, joined}
+use Rattle.lines.proofs.Text.{length-titled, length-joined}
+use Rattle.text.specs.Listing.{lineOf, cubeText, listed, places}
+use Rattle.text.specs.Fit.{Fit, listedOf}
 use Rattle.text.proofs.Lines.{length-header, length-line}
 
 -- what is known of an answer and of the slices after it: they are fit to be listed, and what is listed is the text of the record
@@ -77,30 +74,23 @@ module _ (bytes : List ℕ) where
           rw (er, es, el, ← after .0, ← after .1 .0, ← after .1 .1) (after-none m (sym e))
 
 -- no text is longer than the buffer
-pub length-refused : (m : ℕ) → length (titled (spell "refused") m) ≤ 24584
-unfolding titled
-length-refused m = simp length-append (omega (arith, length-decimal m))
+pub length-refused : (m : ℕ) → m < 10000 → length (titled (spell "refused") m) ≤ 24584
+length-refused m h = omega (arith, length-titled (spell "refused") m 3 h)
 
 length-cube : (n : ℕ) (status : List ℕ) (bits : ℕ → ℕ → Bool) → n ≤ 10 → length (cubeText n status bits) ≤ 24584
 unfolding cubeText
 length-cube n status bits h =
+    let nodes = pow-mono {i = n} {j = 10} h in
     omega (
       arith,
-      length-append (titled (spell "cube") n) (joined (line n status bits) (2 ^ n)),
+      length-append (titled (spell "cube") n) (joined (lineOf n status bits) (2 ^ n)),
       length-header n h,
-      length-joined (line n status bits) 24 (2 ^ n) (λ a. omega (arith, length-line n status bits a)),
-      pow-mono {i = n} {j = 10} h,
+      length-joined (lineOf n status bits) 24 (2 ^ n) (λ a l. omega (arith, length-line n status bits a (omega arith))),
     )
 
 pub length-listed : (reply : Reply ℕ) (status links : List ℕ) → Fit reply status links → length (listedOf reply status links) ≤ 24584
 unfolding listed
-length-listed (refused m) status links fit = length-refused m
-length-listed (accepted n) status links fit = length-cube n (take (2 ^ n) status) (bitsOf (cube (report n (take (2 ^ n) status) (take (2 ^ n) links)))) (fit .high)
-
--- a text put at the start of a buffer
-pub put-whole : (t old new : List ℕ) (r : ℕ) → Put t 0 old new r → length t ≤ length old → Counts r new × ((r ≡ length t) × (new ≡ t ++ drop r old))
-put-whole t old new r p h =
-    let size : r ≡ length t = p .after ∙ zero-add (length t) in
-    let whole : new ≡ t ++ drop r old = p .stands ∙ sets-eq t old 0 (omega arith) ∙ ap (λ (k : ℕ). t ++ drop k old) (sym (p .after)) in
-    let long : r ≤ length new = omega (arith, put-length p) in
-    ((long, sym (length-take-le r new long)), (size, whole))
+length-listed (refused m) status links fit = length-refused m fit
+length-listed (accepted n) status links fit =
+    let R = report n (take (2 ^ n) status) (take (2 ^ n) links) in
+    length-cube n (take (2 ^ n) status) (bitsOf (cube R)) (fit .high)

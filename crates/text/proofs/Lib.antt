@@ -1,4 +1,2 @@
-pub mod Placing
-pub mod Text
 pub mod Lines
 pub mod Answers

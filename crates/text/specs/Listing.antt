@@ -1,9 +1,10 @@
 -- The listing of a record.
-use Prim.Native.Nat.{ℕ, _^_}
+use Prim.Native.Nat.{ℕ, zero, suc, _+_, _^_}
 use mathlib.Core.Bool.{Bool, cond}
-use mathlib.Core.List.{List, _++_}
+use mathlib.Core.List.{List, [], _∷_, _++_}
 use lib.Dec.{ltb}
 use lib.ListN.{length, getD, replicate}
+use Rattle.cube.specs.Count.{one}
 use Rattle.cube.specs.Reply.{Reply, refused, accepted}
 use Rattle.report.specs.Class.{classOf}
 use Rattle.report.specs.Report.{report, cube}
@@ -11,12 +12,7 @@ use Rattle.report.specs.declared.Class.{Class}
 use Rattle.report.specs.declared.Class.the-variants.{Silent, Working, Late, Down, Empty}
 use Rattle.safety.specs.Safety.{bitsOf}
 use Rattle.record.specs.Open.{statusIn, linksIn, opened}
-use Rattle.text.specs.Text.{spell, decimal, row, joined}
-
--- a word and a number on a line
-unfoldable pub titled : List ℕ → ℕ → List ℕ
-unfolding decimal
-titled word m = word ++ (spell " " ++ (decimal m ++ spell "\n"))
+use Rattle.lines.specs.Text.{spell, decimal, titled, joined}
 
 -- the name of a class
 abbrev pub named : Class → List ℕ
@@ -26,16 +22,27 @@ named Late = spell "late"
 named Down = spell "down"
 named Empty = spell "empty"
 
--- the line of node a: its number, its class by its status byte, and its bits from 1 to n
-unfoldable pub line : ℕ → List ℕ → (ℕ → ℕ → Bool) → ℕ → List ℕ
-unfolding decimal row classOf
-line n status bits a =
-    decimal a ++ (spell " " ++ (named (classOf (getD status a 0)) ++ (spell " " ++ (row (bits a) n ++ spell "\n"))))
+-- the name of a class between two spaces
+unfoldable pub spaced : Class → List ℕ
+spaced class = spell " " ++ (named class ++ spell " ")
+
+-- p 1 to p n as one row of digits
+unfoldable pub row : (ℕ → Bool) → ℕ → List ℕ
+row p zero = []
+row p (suc n) = row p n ++ ((48 + one (p (suc n))) ∷ [])
+
+-- the line of node a: its number, its class, and its bits from 1 to n
+unfoldable pub line : ℕ → Class → (ℕ → Bool) → ℕ → List ℕ
+line n class bits a = decimal a ++ (spaced class ++ (row bits n ++ spell "\n"))
+
+-- the line of node a, of the class that its status byte gives
+unfoldable pub lineOf : ℕ → List ℕ → (ℕ → ℕ → Bool) → ℕ → List ℕ
+lineOf n status bits a = line n (classOf (getD status a 0)) (bits a) a
 
 -- the header, and the lines of all nodes
 unfoldable pub cubeText : ℕ → List ℕ → (ℕ → ℕ → Bool) → List ℕ
-unfolding titled joined line
-cubeText n status bits = titled (spell "cube") n ++ joined (line n status bits) (2 ^ n)
+unfolding titled joined lineOf
+cubeText n status bits = titled (spell "cube") n ++ joined (lineOf n status bits) (2 ^ n)
 
 -- of an accepted record its cube with the bits of Definition 1, else the refusal
 unfoldable pub listed : Reply ℕ → List ℕ → List ℕ → List ℕ

@@ -1,130 +1,130 @@
 // The listing of a record, as text in a lent buffer.
 use cube::Node;
+use lines::put;
+use lines::put_byte;
+use lines::put_number;
+use lines::put_titled;
 use record::Opened;
 use report::Class;
 ghost use mathlib.Core.Path.{_≡_};
 ghost use mathlib.Core.List.{_++_};
-ghost use Prim.Native.Nat.{_+_, _*_, _≤_, _<_};
-ghost use lib.ListN.{length, drop};
+ghost use Prim.Native.Nat.{_^_, _≤_};
+ghost use lib.ListN.{length, take, drop, replicate};
 ghost use Rattle.cube.specs.Reply.{accepted};
-ghost use Rattle.report.specs.Report.{report};
-ghost use Rattle.vectors.specs.Fill.{fillRefusal};
+ghost use Rattle.report.specs.Report.{report, cube};
+ghost use Rattle.safety.specs.Safety.{vectors};
 ghost use Rattle.record.specs.Open.{said};
 ghost use Rattle.io.specs.Counts.{Counts};
-ghost use Rattle.text.specs.Text.{decimal, row, joined};
+ghost use Rattle.lines.specs.Text.{joined};
+ghost use Rattle.lines.specs.Put.{Put};
 ghost use Rattle.text.specs.Listing as spec;
-ghost use Rattle.text.specs.Put.{Put, heldBits, Fit, listedOf};
+ghost use Rattle.text.specs.Fit.{heldBits, Fit, listedOf};
 
 // The bytes of the longest listing: the header and 1,024 lines.
 pub const LONGEST: usize = 24584;
 
 // Room for the longest listing.
 pub fn buffer() -> [u8; LONGEST]
-    ensures { λ r. ⌜ 24584 ≡ length r ⌝ }
+    ensures { λ r. ⌜ r ≡ replicate 24584 0 ⌝ }
 {
     [0; LONGEST]
 }
 
-// Puts a word at a place, and gives the place after it.
-fn put(out: &mut [u8], at: usize, word: &[u8]) -> usize
-    requires { ⌜ at + length (now word) ≤ length (now out) ⌝ }
-    ensures { λ r. ⌜ Put (now (word .entry)) at (now (out .entry)) (now (out .exit)) r ⌝ }
-{
-    let mut i: usize = 0;
-    while i < word.len() {
-        out[at + i] = word[i];
-        i += 1;
-    }
-    at + word.len()
+// The name of a class between two spaces, with its size.
+struct Name {
+    bytes: [u8; 9],
+    size: usize,
 }
 
-// Puts a number below 10,000 in decimal.
-fn put_number(out: &mut [u8], at: usize, number: u64) -> usize
-    requires { ⌜ (number < 10000) × (at + 4 ≤ length (now out)) ⌝ }
-    ensures { λ r. ⌜ Put (decimal number) at (now (out .entry)) (now (out .exit)) r ⌝ }
-{
-    let mut digits = [0u8; 20];
-    let count = io::decimal(number, &mut digits);
-    put(out, at, &digits[0..count])
-}
-
-// Puts the name of a class.
-fn put_class(out: &mut [u8], at: usize, class: Class) -> usize
-    requires { ⌜ at + 7 ≤ length (now out) ⌝ }
-    ensures { λ r. ⌜ Put (spec.named class) at (now (out .entry)) (now (out .exit)) r ⌝ }
+// The name of a class between two spaces.
+fn name_of(class: Class) -> Name
+    ensures { λ r. ⌜ Counts (r .size) (r .bytes) ⌝ }
+    ensures { λ r. ⌜ take (r .size) (r .bytes) ≡ spec.spaced class ⌝ }
 {
     match class {
-        Class::Silent => put(out, at, b"silent"),
-        Class::Working => put(out, at, b"working"),
-        Class::Late => put(out, at, b"late"),
-        Class::Down => put(out, at, b"down"),
-        Class::Empty => put(out, at, b"empty"),
+        Class::Silent => Name {
+            bytes: *b" silent  ",
+            size: 8,
+        },
+        Class::Working => Name {
+            bytes: *b" working ",
+            size: 9,
+        },
+        Class::Late => Name {
+            bytes: *b" late    ",
+            size: 6,
+        },
+        Class::Down => Name {
+            bytes: *b" down    ",
+            size: 6,
+        },
+        Class::Empty => Name {
+            bytes: *b" empty   ",
+            size: 7,
+        },
     }
+}
+
+// Puts the name of a class between two spaces.
+fn put_class(out: &mut [u8], at: usize, class: Class) -> usize
+    ensures { λ r. ⌜ Put (spec.spaced class) at (now (out .entry)) (now (out .exit)) r ⌝ }
+{
+    let name = name_of(class);
+    let bytes = name.bytes;
+    let size = name.size;
+    put(out, at, &bytes[..size])
 }
 
 // Puts the own bits 1 to n of a node as one row of digits.
 fn put_bits(out: &mut [u8], at: usize, n: u32, vectors: &[u16], a: Node) -> usize
-    requires { ⌜ (n ≤ 10) × (at + n ≤ length (now out)) ⌝ }
-    ensures { λ r. ⌜ Put (row (heldBits (now (vectors .entry)) (a .0)) n) at (now (out .entry)) (now (out .exit)) r ⌝ }
-{
-    let mut k: u32 = 0;
-    while k < n {
-        out[at + k as usize] = b'0' + held::own(vectors, a, k + 1) as u8;
-        k += 1;
-    }
-    at + n as usize
-}
-
-// Puts a word and a number below 10,000 on a line.
-fn put_titled(out: &mut [u8], word: &[u8], number: u64) -> usize
-    requires { ⌜ (number < 10000) × (length (now word) + 6 ≤ length (now out)) ⌝ }
-    ensures { λ r. ⌜ Put (spec.titled (now (word .entry)) number) 0 (now (out .entry)) (now (out .exit)) r ⌝ }
-{
-    let titled = put(out, 0, word);
-    let spaced = put(out, titled, b" ");
-    let counted = put_number(out, spaced, number);
-    put(out, counted, b"\n")
-}
-
-// Puts the line of a node: its number, its class by its status byte, and its bits.
-fn put_line(out: &mut [u8], at: usize, n: u32, status: &[u8], vectors: &[u16], a: usize) -> usize
-    requires { ⌜ (n ≤ 10) × (a < 1024) × (a < length (now status)) × (at + 24 ≤ length (now out)) ⌝ }
-    ensures { λ r. ⌜ Put (spec.line n (now (status .entry)) (heldBits (now (vectors .entry))) a) at (now (out .entry)) (now (out .exit)) r ⌝ }
-{
-    let class = report::class_of(status[a]);
-    let numbered = put_number(out, at, a as u64);
-    let spaced = put(out, numbered, b" ");
-    let classed = put_class(out, spaced, class);
-    let parted = put(out, classed, b" ");
-    let ended = put_bits(out, parted, n, vectors, Node(a as u16));
-    put(out, ended, b"\n")
-}
-
-// Puts the lines of all nodes, one for each status byte.
-fn put_lines(out: &mut [u8], at: usize, n: u32, status: &[u8], vectors: &[u16]) -> usize
-    requires { ⌜ (n ≤ 10) × (length (now status) ≤ 1024) × (at + 24 * length (now status) ≤ length (now out)) ⌝ }
     ensures { λ r.
-        let status = now (status .entry) in
-        let lines = joined (spec.line n status (heldBits (now (vectors .entry)))) (length status) in
-        ⌜ Put lines at (now (out .entry)) (now (out .exit)) r ⌝ }
+        let bits = heldBits (now (vectors .entry)) (a .0) in
+        ⌜ Put (spec.row bits n) at (now (out .entry)) (now (out .exit)) r ⌝ }
 {
     let mut end = at;
-    let mut a: usize = 0;
-    while a < status.len() {
-        end = put_line(out, end, n, status, vectors, a);
-        a += 1;
+    let mut k: u32 = 0;
+    while k < n {
+        let bit = held::own(vectors, a, k + 1);
+        end = put_byte(out, end, b'0' + bit as u8);
+        k += 1;
     }
     end
 }
 
-// Puts the listing of a report that Open accepted, so that Fill accepts it too.
-fn put_cube(out: &mut [u8], n: u32, status: &[u8], links: &[u16], vectors: &mut [u16]) -> usize
-    requires { ⌜ (n ≤ 10) × (fillRefusal (report n (now status) (now links)) (now vectors) ≡ 0) × (24584 ≤ length (now out)) ⌝ }
-    ensures { λ r. ⌜ Put (spec.listed (accepted n) (now (status .entry)) (now (links .entry))) 0 (now (out .entry)) (now (out .exit)) r ⌝ }
+// Puts the line of a node of this class: its number, its class and its bits.
+fn put_line(out: &mut [u8], at: usize, n: u32, class: Class, vectors: &[u16], a: Node) -> usize
+    ensures { λ r.
+        let line = spec.line n class (heldBits (now (vectors .entry)) (a .0)) (a .0) in
+        ⌜ Put line at (now (out .entry)) (now (out .exit)) r ⌝ }
 {
-    vectors::fill(n, status, links, vectors);
-    let titled = put_titled(out, b"cube", n as u64);
-    put_lines(out, titled, n, status, vectors)
+    let numbered = put_number(out, at, a.0 as u64);
+    let classed = put_class(out, numbered, class);
+    let ended = put_bits(out, classed, n, vectors, a);
+    put_byte(out, ended, b'\n')
+}
+
+// Puts the lines of the first nodes.
+fn put_lines(
+    out: &mut [u8],
+    at: usize,
+    n: u32,
+    nodes: usize,
+    status: &[u8],
+    vectors: &[u16],
+) -> usize
+    requires { ⌜ (nodes ≤ 1024) × (nodes ≤ length (now status)) ⌝ }
+    ensures { λ r.
+        let lines = joined (spec.lineOf n (now (status .entry)) (heldBits (now (vectors .entry)))) nodes in
+        ⌜ Put lines at (now (out .entry)) (now (out .exit)) r ⌝ }
+{
+    let mut end = at;
+    let mut a: usize = 0;
+    while a < nodes {
+        let class = report::class_of(status[a]);
+        end = put_line(out, end, n, class, vectors, Node(a as u16));
+        a += 1;
+    }
+    end
 }
 
 // Room for the vectors of the largest cube.
@@ -134,30 +134,47 @@ fn room() -> [u16; 1024]
     [0; 1024]
 }
 
-// Puts the listing of an accepted report of dimension n, which stands at the start of the slices.
-fn put_report(out: &mut [u8], n: u32, status: &[u8], links: &[u16]) -> usize
-    requires { ⌜ (Fit (accepted n) (now status) (now links)) × (24584 ≤ length (now out)) ⌝ }
-    ensures { λ r. ⌜ Put (listedOf (accepted n) (now (status .entry)) (now (links .entry))) 0 (now (out .entry)) (now (out .exit)) r ⌝ }
+// The vectors of an accepted report of dimension n, which stands at the start of the slices.
+fn vectors_of(n: u32, status: &[u8], links: &[u16]) -> [u16; 1024]
+    requires { ⌜ Fit (accepted n) (now status) (now links) ⌝ }
+    ensures { λ r. ⌜ 1024 ≡ length r ⌝ }
+    ensures { λ r.
+        let R = report n (take (2 ^ n) (now (status .entry))) (take (2 ^ n) (now (links .entry))) in
+        ⌜ take (2 ^ n) r ≡ vectors (cube R) ⌝ }
 {
     let nodes: usize = 1 << n;
     let mut vectors = room();
-    put_cube(
-        out,
+    vectors::fill(
         n,
         &status[0..nodes],
         &links[0..nodes],
         &mut vectors[0..nodes],
-    )
+    );
+    vectors
+}
+
+// Puts the listing of an accepted report of dimension n, which stands at the start of the slices.
+fn put_cube(out: &mut [u8], n: u32, status: &[u8], links: &[u16]) -> usize
+    requires { ⌜ Fit (accepted n) (now status) (now links) ⌝ }
+    ensures { λ r.
+        let text = listedOf (accepted n) (now (status .entry)) (now (links .entry)) in
+        ⌜ Put text 0 (now (out .entry)) (now (out .exit)) r ⌝ }
+{
+    let vectors = vectors_of(n, status, links);
+    let titled = put_titled(out, 0, b"cube", n as u64);
+    put_lines(out, titled, n, 1 << n, status, &vectors)
 }
 
 // Puts the listing of what Open answered, the report standing at the start of the slices.
 fn put_opened(out: &mut [u8], opened: Opened, status: &[u8], links: &[u16]) -> usize
-    requires { ⌜ (Fit (said opened) (now status) (now links)) × (24584 ≤ length (now out)) ⌝ }
-    ensures { λ r. ⌜ Put (listedOf (said opened) (now (status .entry)) (now (links .entry))) 0 (now (out .entry)) (now (out .exit)) r ⌝ }
+    requires { ⌜ Fit (said opened) (now status) (now links) ⌝ }
+    ensures { λ r.
+        let text = listedOf (said opened) (now (status .entry)) (now (links .entry)) in
+        ⌜ Put text 0 (now (out .entry)) (now (out .exit)) r ⌝ }
 {
     match opened {
-        Opened::Cube(n) => put_report(out, n, status, links),
-        Opened::Refused(number) => put_titled(out, b"refused", number as u64),
+        Opened::Cube(n) => put_cube(out, n, status, links),
+        Opened::Refused(number) => put_titled(out, 0, b"refused", number as u64),
     }
 }
 
@@ -168,7 +185,7 @@ pub fn listing(bytes: &[u8], out: &mut [u8; LONGEST]) -> usize
     ensures text { λ r. ⌜ now (out .exit) ≡ spec.listing (now (bytes .entry)) ++ drop r (now (out .entry)) ⌝ }
 {
     if 4096 < bytes.len() {
-        return put_titled(out, b"refused", 10);
+        return put_titled(out, 0, b"refused", 10);
     }
     let mut status = [0u8; 1024];
     let mut links = [0u16; 1024];

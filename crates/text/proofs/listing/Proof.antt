@@ -5,9 +5,9 @@ use native.Mathlib.Omega.{arith}
 use lib.ListN.{length}
 use denote.Ref.{now}
 use Rattle.record.specs.Open.{said}
-use Rattle.text.specs.Text.{spell}
-use Rattle.text.specs.Listing.{titled, listed, listing}
-use Rattle.text.proofs.Answers.{Answered, answered, length-refused, length-listed, put-whole}
+use Rattle.lines.proofs.Placing.{put-whole}
+use Rattle.text.specs.Listing.{listed, listing}
+use Rattle.text.proofs.Answers.{Answered, answered, length-refused, length-listed}
 use Rattle.text.proofs.listing.Statement.{statement}
 use Rattle.text.proofs.listing.Tie as tie
 
@@ -22,7 +22,7 @@ unfolding listing listed
 returns c =
     let a = c .before .before .before .before .before .args in
     rw (lt-ltb 4096 (length (now (a .bytes))) (c .before .before .before .if1 .taken))
-    (put-whole (titled (spell "refused") 10) (now (a .out)) (c .put-titled .last .0) (c .put-titled .result) (c .put-titled .ensures) (omega (arith, length-refused 10)))
+    (put-whole (c .put-titled .ensures) (omega (arith, length-refused 10 (omega arith))))
 
 slice-aggregate-open : tie.Need-slice-aggregate-open
 slice-aggregate-open c = search needs
@@ -43,18 +43,20 @@ slice-aggregate-put-opened-2 c = search needs
 answer :
     (c : tie.After-open) →
     Answered (now (c .before .before .before .before .before .args .bytes)) (said (c .«open» .result)) (c .«open» .last .1 .0) (c .«open» .last .1 .1 .0)
-answer c = answered (now (c .before .before .before .before .before .args .bytes)) _ _ _ (c .«open» .ensures .0) (c .«open» .ensures .1 .0) (c .«open» .ensures .1 .1)
+answer c =
+    answered (now (c .before .before .before .before .before .args .bytes)) _ _ _ (c .«open» .ensures .0) (c .«open» .ensures .1 .0) (c .«open» .ensures .1 .1)
 
 put-opened-requires : tie.Need-put-opened-requires
-put-opened-requires c κs = (answer (c .before .before .before .before .before) .fit, omega arith)
+put-opened-requires c κs = answer (c .before .before .before .before .before) .fit
 
 returns-2 : tie.Need-returns-2
 unfolding listing
 returns-2 c =
     let a = c .before .before .before .before .before .before .before .before .before .before .before .args in
     let o = c .before .before .before .before .before .before in
+    let r = o .«open» in
     rw (le-ltb 4096 (length (now (a .bytes))) (omega arith), ← answer o .tells)
-    (put-whole _ (now (a .out)) (c .put-opened .last .0) (c .put-opened .result) (c .put-opened .ensures) (omega (arith, length-listed (said (o .«open» .result)) (o .«open» .last .1 .0) (o .«open» .last .1 .1 .0) (answer o .fit))))
+    (put-whole (c .put-opened .ensures) (omega (arith, length-listed (said (r .result)) (r .last .1 .0) (r .last .1 .1 .0) (answer o .fit))))
 
 pub listing-spec : {M : Type 1} → statement M
 listing-spec =
