@@ -2,7 +2,8 @@
 use bytes::scan;
 use libc::STDERR_FILENO;
 use record::word_at;
-ghost use Prim.Native.Nat.{_≤_};
+ghost use mathlib.Core.Path.{_≡_};
+ghost use Prim.Native.Nat.{_^_, _≤_, min};
 ghost use lib.ListN.{length};
 ghost use Rattle.io.specs.Counts.{Counts};
 
@@ -12,22 +13,20 @@ pub struct Input {
     pub failed: bool,
 }
 
-// Reads until an input ends or the room is full. A room of one byte more than is allowed is full just where too much came.
+// Reads until an input ends, which is a read of no bytes, until a read fails, or until the room is full.
+// A room of one byte more than is allowed is full just where too much came.
 pub fn read_all(fd: i32, room: &mut [u8]) -> Input
     ensures { λ r. ⌜ Counts (r .count) (now (room .exit)) ⌝ }
 {
     let mut at: usize = 0;
     while at < room.len() {
         let got = libc::read(fd, &mut room[at..]);
-        if got < 0 {
-            return Input {
-                count: at,
-                failed: true,
-            };
-        }
         let more = io::count(got, &room[at..]);
         if more == 0 {
-            break;
+            return Input {
+                count: at,
+                failed: got < 0,
+            };
         }
         at += more;
     }
@@ -67,6 +66,7 @@ pub fn say_with(text: &[u8], a: u64, b: u64, c: u64) {
 // How many boards a cube of dimension n has; from 10 on 1,024.
 pub fn boards(n: u32) -> usize
     ensures { λ r. ⌜ r ≤ 1024 ⌝ }
+    ensures { λ r. ⌜ r ≡ 2 ^ min n 10 ⌝ }
 {
     if 9 < n { 1024 } else { 1 << n }
 }
