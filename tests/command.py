@@ -241,20 +241,28 @@ def alive(pid):
         return False
 
 
+def of_process(pid, name):
+    """A file of /proc about a process, empty where it has ended."""
+    try:
+        return read("/proc/%d/%s" % (pid, name))
+    except OSError:
+        return b""
+
+
 def below(pid, words):
     """The processes that a process started, and those that they started, whose command has these words."""
-    try:
-        started = [int(x) for x in read("/proc/%d/task/%d/children" % (pid, pid)).split()]
-        found = [p for p in started if words in read("/proc/%d/cmdline" % p).replace(b"\0", b" ")]
-        return found + [q for p in started for q in below(p, words)]
-    except OSError:
-        return []
+    found = []
+    for child in (int(x) for x in of_process(pid, "task/%d/children" % pid).split()):
+        if words in of_process(child, "cmdline").replace(b"\0", b" "):
+            found.append(child)
+        found += below(child, words)
+    return found
 
 
 def stopped(script, words, number):
     """Once a command with these words runs below a script, a signal to the script alone ends both: its status and what it wrote."""
-    until(lambda: below(script.pid, words))
-    started = below(script.pid, words)
+    started = []
+    until(lambda: started.extend(below(script.pid, words)) or started)
     script.send_signal(number)
     status = script.wait(timeout=10)
     if not started or not until(lambda: not any(alive(p) for p in started)):
