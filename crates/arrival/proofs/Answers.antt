@@ -63,13 +63,13 @@ module _ {C : Cube} {d a nav left : ℕ} {reply : Reply Next} where
   left-le (inl g) = omega (arith, g .none)
   left-le (inr g) = let h = g .each (g .some .0) (g .some .1) in omega (arith, weight-le (C .dim) _ (h .way .at .near), h .fewer)
 
--- what a source is told is the mask accepted
-pub told-mask : (c : Choice) (mask : ℕ) → accepted (told c) ≡ accepted (onward mask) → maskOf c ≡ mask
+-- where hops are to be made, the source is told the mask accepted
+pub told-mask : (c : Choice) → 0 < hopsOf c → told c ≡ onward (maskOf c)
 unfolding told
-told-mask home mask e = absurd (let z : _≡_ {A = ℕ} 0 1 = cc in omega arith)
-told-mask (assured p h) mask e = cc
-told-mask (lent p h) mask e = cc
-told-mask (detour q h) mask e = cc
+told-mask home h = absurd (omega arith)
+told-mask (assured p k) h = refl
+told-mask (lent p k) h = refl
+told-mask (detour q k) h = refl
 
 -- what holds of Decide's rule: it refuses by 7 alone, and what it accepts takes the hops promised
 abbrev pub Fair : Cube → ℕ → ℕ → ℕ → Reply Choice → Type 0

@@ -4,6 +4,7 @@ use mathlib.Core.Bool.{true, not, and-eq-true-iff}
 use mathlib.Core.Logic.{inl, inr, ⊎-elim}
 use mathlib.Core.List.{List, [], _∷_, _++_, append-assoc}
 use Prim.Native.Nat.{ℕ, zero, suc, _+_, _-_, _^_, _≤_, _<_}
+use native.Mathlib.Nat.{le-of-eq}
 use native.Mathlib.Omega.{arith}
 use borrow.Author.Tests.{ne-eqb}
 use lib.Bits.{bitXor, xor-lt}
@@ -88,15 +89,19 @@ module _ (R : Report) where
           there = ap (C .works) (u .at .address) ∙ u .at .there;
         }))
 
-    -- over Fill's vectors Decide never answers 8
-    pub no-eight : decide R words s d ≡ refused 8 → ⊥
+    -- over Fill's vectors Decide refuses by no number above 7
+    pub refuses-to-7 : (m : ℕ) → decide R words s d ≡ refused m → m ≤ 7
     unfolding decide
-    no-eight e =
-        ⊎-elim (λ (q : decideRefusal R words s d ≡ 8). omega (arith, decide-refusal-le R words s d)) rule
-        (unless-refused (decideRefusal R words s d) ruled 8 e)
+    refuses-to-7 m e =
+        ⊎-elim (λ (q : decideRefusal R words s d ≡ m). omega (arith, decide-refusal-le R words s d)) rule
+        (unless-refused (decideRefusal R words s d) ruled m e)
       where
-        rule : (decideRefusal R words s d ≡ 0) × (ruled ≡ refused 8) → ⊥
-        rule (z, q) = let seven : _≡_ {A = ℕ} 8 7 = rw q at (source-fair (start (decide-clear R words s d z))) in omega arith
+        rule : (decideRefusal R words s d ≡ 0) × (ruled ≡ refused m) → m ≤ 7
+        rule (z, q) = le-of-eq (rw q at (source-fair (start (decide-clear R words s d z))))
+
+    -- so never by 8
+    pub no-eight : decide R words s d ≡ refused 8 → ⊥
+    no-eight e = omega (arith, refuses-to-7 8 e)
 
     module _ (c : Choice) where
       module _ (accepts : decide R words s d ≡ accepted c) where

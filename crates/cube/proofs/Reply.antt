@@ -5,7 +5,7 @@ use mathlib.Core.Logic.{_⊎_, inl, inr}
 use mathlib.Core.List.{List}
 use Prim.Native.Nat.{ℕ, zero, suc, _≤_}
 use native.Mathlib.Omega.{arith}
-use Rattle.cube.specs.Reply.{Reply, refused, accepted, unless, kept, OneAnswer}
+use Rattle.cube.specs.Reply.{Reply, refused, accepted, ifAccepted, unless, kept, OneAnswer}
 
 -- where nothing refuses, the first test doesn't hold, and no later one does
 pub passed : (t : Bool) (m later : ℕ) → cond t (suc m) later ≡ 0 → (t ≡ false) × (later ≡ 0)
@@ -52,6 +52,18 @@ pub unless-refused : {A : Type 0} (m : ℕ) (r : Reply A) (k : ℕ) → unless m
 unfolding unless
 unless-refused zero r k e = inr (refl, e)
 unless-refused (suc m) r k e = inl (cc)
+
+-- what an acceptance led to is accepted
+pub if-accepted : {A B : Type 0} (go : A → B) (x : Reply A) (y : B) → ifAccepted go x ≡ accepted y → (z : A) × (x ≡ accepted z) × (go z ≡ y)
+unfolding ifAccepted
+if-accepted go (refused m) y e = absurd (let z : _≡_ {A = ℕ} 0 1 = cc in omega arith)
+if-accepted go (accepted z) y e = (z, refl, cc)
+
+-- and a refusal was one before
+pub if-refused : {A B : Type 0} (go : A → B) (x : Reply A) (m : ℕ) → ifAccepted go x ≡ refused m → x ≡ refused m
+unfolding ifAccepted
+if-refused go (refused k) m e = ap refused cc
+if-refused go (accepted z) m e = absurd (let z : _≡_ {A = ℕ} 0 1 = cc in omega arith)
 
 -- no refusal is an acceptance
 pub refused-accepted : {A : Type 0} (m : ℕ) (x : A) → refused m ≡ accepted x → ⊥

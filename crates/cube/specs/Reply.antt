@@ -9,6 +9,11 @@ pub data Reply (A : Type 0) : Type 0 where
   refused : ℕ → Reply A
   accepted : A → Reply A
 
+-- what an acceptance leads to; a refusal is handed out
+unfoldable pub ifAccepted : {A B : Type 0} → (A → B) → Reply A → Reply B
+ifAccepted go (refused m) = refused m
+ifAccepted go (accepted x) = accepted (go x)
+
 -- the number of the first test that holds, 0 where none does
 unfoldable pub refusal : List (Bool × ℕ) → ℕ
 refusal [] = 0
@@ -28,11 +33,6 @@ kept (suc m) new old = old
 abbrev pub numberOf : {A : Type 0} → Reply A → ℕ
 numberOf (refused m) = m
 numberOf (accepted x) = 0
-
--- whether it is a refusal
-abbrev pub isRefusal : {A : Type 0} → Reply A → Bool
-isRefusal (refused m) = true
-isRefusal (accepted x) = false
 
 -- Two answers that say the same are equal: a contract that fixes what is said for an input allows one answer to it.
 unfoldable pub OneAnswer : {A R : Type 0} → (R → Reply A) → Type 0

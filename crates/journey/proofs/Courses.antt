@@ -1,60 +1,45 @@
 -- The laws of a journey under way as the code carries it.
-use mathlib.Core.Path.{_≡_, refl, ap, sym, _∙_}
-use mathlib.Core.Bool.{true, false, cond, true≢false}
+use mathlib.Core.Path.{_≡_, refl, ap, sym, _∙_, subst}
 use mathlib.Core.Logic.{inl, inr}
-use mathlib.Core.List.{List, [], _∷_, _++_, append-nil}
-use Prim.Native.Nat.{ℕ, zero, suc, _+_, _-_, _≤_, _<_}
+use mathlib.Core.List.{List, [], _∷_, _++_, append-nil, append-assoc}
+use Prim.Native.Nat.{ℕ, suc, _+_, _≤_, _<_}
 use native.Mathlib.Numerals.{add-one, one-add}
 use native.Mathlib.Omega.{arith}
+use lib.Bits.{bitXor}
 use lib.ListN.{length, getD, take, drop, set}
-use lib.Seq.{take-suc-set, paste}
+use lib.Seq.{take-suc-set, drop-cons, paste}
 use types.Run.{OneOf}
 use denote.Enum.Declared.{tagOf}
-use Rattle.cube.specs.Bits.{flip}
-use Rattle.cube.specs.Reply.{Reply, refused, accepted, numberOf, isRefusal}
+use Rattle.cube.specs.Reply.{Reply, accepted}
+use Rattle.cube.proofs.Reply.{refused-accepted}
 use Rattle.report.specs.Report.{Report}
+use Rattle.safety.specs.Safety.{vectorsOf}
 use Rattle.routing.proofs.Step.{the-type}
 use Rattle.routing.specs.declared.Step.{Step}
 use Rattle.routing.specs.declared.Step.the-variants.{Arrived, Offered, Refused}
-use Rattle.pick.specs.Pick.{taken}
-use Rattle.rules.specs.Rules.{Next, arrived, onward}
-use Rattle.rules.specs.Hop.{hop}
 use Rattle.routing.specs.Hop.{said}
-use Rattle.journey.specs.Journey.{via, follow, hops, leave}
+use Rattle.rules.specs.Rules.{Choice, maskOf, hopsOf, Next, onward}
+use Rattle.rules.specs.Decide.{decide}
+use Rattle.rules.specs.Hop.{hop}
+use Rattle.arrival.specs.Walk.{Leg, told, answer, Walk, source}
+use Rattle.arrival.proofs.Answers.{told-mask}
+use Rattle.arrival.proofs.Walks.{kept}
+use Rattle.pick.specs.Pick.{taken}
+use Rattle.journey.specs.Journey.{hops, leave}
 use Rattle.journey.specs.declared.Course.{Course}
-use Rattle.journey.specs.Course.{came, stopped, Crossed, Followed, through}
+use Rattle.journey.specs.Course.{Offers, came, Crossed}
+use Rattle.journey.proofs.Promise.{hops-end, offers}
 
--- a refusal with its number, or the boards
-pub stops : (x : Reply Next) (bs : List ℕ) → cond (isRefusal x) (refused (numberOf x)) (accepted bs) ≡ stopped x bs
-stops (refused m) bs = refl
-stops (accepted y) bs = refl
+-- an answer that is another case than an offer offers nothing
+pub no-offer : (x : Step) → OneOf (0 ∷ 2 ∷ []) (tagOf the-type x) → Offers (said x) → ⊥
+no-offer Arrived t (mask, e) = let z : _≡_ {A = ℕ} 0 1 = cc in omega arith
+no-offer (Offered mask) (inl z) o = omega arith
+no-offer (Offered mask) (inr z) o = omega arith
+no-offer (Refused m) t (mask, e) = refused-accepted m _ e
 
--- an answer that offers nothing stops the walk
-pub stop-follows : (n : ℕ) (w : Course) (x : Step) (pick : ℕ) (r : Course) → OneOf (0 ∷ 2 ∷ []) (tagOf the-type x)
-    → (r .over ≡ true) × (r .made ≡ w .made) × (came r ≡ stopped (said x) (take (w .made) (w .boards))) → Followed n w (said x) pick r
-stop-follows n w Arrived pick r t e = e
-stop-follows n w (Offered mask) pick r (inl z) e = absurd (omega arith)
-stop-follows n w (Offered mask) pick r (inr z) e = absurd (omega arith)
-stop-follows n w (Refused m) pick r t e = e
-
--- ---- boards in front
-
-pub through-refused : (bs : List ℕ) (m : ℕ) → through bs (refused m) ≡ refused m
-unfolding through via
-through-refused [] m = refl
-through-refused (b ∷ bs) m = ap (via b) (through-refused bs m)
-
-pub through-accepted : (bs cs : List ℕ) → through bs (accepted cs) ≡ accepted (bs ++ cs)
-unfolding through via
-through-accepted [] cs = refl
-through-accepted (b ∷ bs) cs = ap (via b) (through-accepted bs cs)
-
-pub through-via : (bs : List ℕ) (b : ℕ) (x : Reply (List ℕ)) → through bs (via b x) ≡ through (bs ++ (b ∷ [])) x
-unfolding through
-through-via [] b x = refl
-through-via (a ∷ bs) b x = ap (via a) (through-via bs b x)
-
--- ---- the path
+-- two offers that are the same have the same mask
+pub same-offer : {m k : ℕ} → accepted (onward m) ≡ accepted (onward k) → m ≡ k
+same-offer e = cc
 
 -- the path with its source and its boards written
 pub path-end : (path : List ℕ) (s : ℕ) (bs : List ℕ) (k : ℕ) → 0 < length path
@@ -63,89 +48,95 @@ path-end [] s bs k h = absurd (omega arith)
 path-end (x ∷ path) s bs k h =
     ap (λ (m : ℕ). s ∷ take k bs ++ drop m (s ∷ path)) (one-add k) ∙ ap (λ (m : ℕ). s ∷ take k bs ++ drop m (x ∷ path)) (sym (add-one k))
 
--- ---- the walk after j of its hops
+module _ (R : Report) where
+  -- what Hop answers at the board of a course
+  abbrev pub hopAt : Course → Reply Next
+  hopAt w = hop R (vectorsOf R) (w .node .0) (w .nav .0)
 
-module _ (R : Report) (table picks : List ℕ) (promised : ℕ) where
-  -- what the whole walk comes to is what its boards so far and its rest come to
-  pub record Under (whole : Reply (List ℕ)) (j : ℕ) (w : Course) : Type 0 where
-    pub made : w .made ≡ j
-    pub going : w .refused ≡ false
-    pub rest : whole ≡ through (take j (w .boards)) (hops R table picks (promised - j) j (w .node .0) (w .nav .0))
+  -- A course after its first hop is one of demand 3's walks, with so many hops promised.
+  pub record Walks (promised : ℕ) (w : Course) : Type 0 where
+    pub s : ℕ
+    pub d : ℕ
+    pub choice : Choice
+    pub last : Leg
+    pub legs : List Leg
+    pub walk : Walk R s d choice (last ∷ legs) (w .node .0) (w .nav .0)
+    pub made : suc (length legs) ≡ w .made
+    pub promises : hopsOf choice ≡ promised
 
-  abbrev answerTo : Course → Reply Next
-  answerTo w = hop R table (w .node .0) (w .nav .0)
+  module _ (picks : List ℕ) where
+    -- the path of a course: its boards so far, and those after them by the answer at its board
+    abbrev pub whole : Course → Reply Next → List ℕ
+    whole w x = came w ++ hops R (drop (w .made) picks) x (w .node .0) (w .nav .0)
 
-  -- what follows an offer
-  abbrev after : Course → ℕ → ℕ → Reply (List ℕ)
-  after w j mask =
-      let i = taken (R .dim) mask (getD picks j 0) in
-      via (flip (w .node .0) i) (hops R table picks (promised - suc j) (suc j) (flip (w .node .0) i) (flip (w .nav .0) i))
+    -- a hop along the dimension that the next pick takes of those offered, for any offer that the answer is
+    abbrev pub ByPick : Course → Reply Next → Course → Type 0
+    ByPick w x r = (mask : ℕ) → x ≡ accepted (onward mask) → Crossed w (taken (R .dim) mask (getD picks (w .made) 0)) r
 
-  -- one more hop to make
-  step : (whole : Reply (List ℕ)) (j : ℕ) (w : Course) → j < promised → Under whole j w
-      → whole ≡ through (take j (w .boards)) (follow (answerTo w) (after w j))
-  unfolding hops
-  step whole j w h u =
-      u .rest
-      ∙ ap (λ (k : ℕ). through (take j (w .boards)) (hops R table picks k j (w .node .0) (w .nav .0)))
-      (let e : promised - j ≡ suc (promised - suc j) = omega arith in e)
-
-  -- a walk that goes on
-  pub under-next : (whole : Reply (List ℕ)) (j : ℕ) (w r : Course) → j < promised → promised ≤ 11 → Under whole j w
-      → Followed (R .dim) w (answerTo w) (getD picks j 0) r → r .over ≡ false → Under whole (j + 1) r
-  unfolding follow
-  under-next whole j w r h l u f o = go (answerTo w) (step whole j w h u) f
-    where
-      go : (x : Reply Next) → whole ≡ through (take j (w .boards)) (follow x (after w j)) → Followed (R .dim) w x (getD picks j 0) r → Under whole (j + 1) r
-      go (refused m) e g = absurd (true≢false (sym (g .0) ∙ o))
-      go (accepted arrived) e g = absurd (true≢false (sym (g .0) ∙ o))
-      go (accepted (onward mask)) e g =
+    -- a walk goes on by its board's offer, and its path stays the same
+    goes-on : (s d : ℕ) (c : Choice) (w r : Course) (legs : List Leg) → Walk R s d c legs (w .node .0) (w .nav .0) → length legs ≡ w .made
+        → w .made < hopsOf c → w .made < length picks → hopsOf c ≤ 11 → ByPick w (answer R c legs (w .node .0) (w .nav .0)) r
+        → Walks (hopsOf c) r × (whole r (hopAt r) ≡ whole w (answer R c legs (w .node .0) (w .nav .0))) × (r .made ≡ w .made + 1)
+    unfolding hops
+    goes-on s d c w r legs v e short l long f =
+        let (mask, q, on) = offers R s d c v (omega arith) in
+        let x = f mask q in (
           record {
-            made = g .made ∙ ap (λ (x : ℕ). x + 1) (u .made);
-            going = g .refused;
-            rest = rw (g .node, g .nav, g .boards, u .made, add-one, take-suc-set (w .boards) j _ (omega (arith, g .long))) (e ∙ through-via (take j (w .boards)) _ _);
-          }
+            s = s;
+            d = d;
+            choice = c;
+            last = record { board = w .node .0; along = taken (R .dim) mask (getD picks (w .made) 0) };
+            legs = legs;
+            walk = rw (x .node, x .nav) (on (getD picks (w .made) 0));
+            made = omega (arith, x .made);
+            promises = refl;
+          },
+          rw (x .node, x .nav, x .boards, x .made, add-one, drop-cons picks (w .made) 0 l, q, take-suc-set (w .boards) (w .made) _ (omega (arith, x .long)))
+              (append-assoc (came w) _ _),
+          x .made,
+        )
 
-  -- a walk that is over
-  pub under-over : (whole : Reply (List ℕ)) (j : ℕ) (w r : Course) → j < promised → Under whole j w
-      → Followed (R .dim) w (answerTo w) (getD picks j 0) r → r .over ≡ true → (came r ≡ whole) × (r .made ≤ promised)
-  unfolding follow
-  under-over whole j w r h u f o = go (answerTo w) (step whole j w h u) f
-    where
-      go : (x : Reply Next) → whole ≡ through (take j (w .boards)) (follow x (after w j)) → Followed (R .dim) w x (getD picks j 0) r
-          → (came r ≡ whole) × (r .made ≤ promised)
-      go (refused m) e g = (g .2 ∙ sym (e ∙ through-refused (take j (w .boards)) m), omega (arith, g .1, u .made))
-      go (accepted arrived) e g = (
-        g .2 ∙ ap (λ (k : ℕ). accepted (take k (w .boards))) (u .made)
-            ∙ sym (e ∙ through-accepted (take j (w .boards)) [] ∙ ap accepted (append-nil (take j (w .boards)))),
-        omega (arith, g .1, u .made),
-      )
-      go (accepted (onward mask)) e g = absurd (true≢false (sym o ∙ g .over))
+    module _ (s d : ℕ) (c : Choice) (accepts : decide R (vectorsOf R) s d ≡ accepted c) where
+      -- with no hop to make the path is empty
+      pub stays : hopsOf c ≡ 0 → leave R picks s d c .after ≡ []
+      unfolding leave answer
+      stays z = hops-end R s d c (source accepts) picks (omega arith)
 
-  -- a walk that has made its hops
-  pub under-end : (whole : Reply (List ℕ)) (j : ℕ) (w : Course) → promised ≡ j → Under whole j w → came w ≡ whole
-  unfolding hops
-  under-end whole j w h u =
-      rw (u .going, u .made)
-      (sym
-      (u .rest
-      ∙ ap (λ (k : ℕ). through (take j (w .boards)) (hops R table picks k j (w .node .0) (w .nav .0))) (let e : promised - j ≡ 0 = omega arith in e)
-      ∙ through-accepted (take j (w .boards)) []
-      ∙ ap accepted (append-nil (take j (w .boards)))))
+      -- the first hop, by the mask accepted
+      pub sets-out : (w r : Course) (offer : ℕ) → w .node .0 ≡ s → w .nav .0 ≡ bitXor s d → w .made ≡ 0 → offer ≡ maskOf c
+          → 0 < hopsOf c → 0 < length picks → hopsOf c ≤ 11
+          → ((mask : ℕ) → accepted (onward offer) ≡ accepted (onward mask) → Crossed w (taken (R .dim) mask (getD picks 0 0)) r)
+          → Walks (hopsOf c) r × (whole r (hopAt r) ≡ leave R picks s d c .after)
+      unfolding leave answer
+      sets-out w r offer es en em eo h l long f =
+          let by : ByPick w (accepted (told c)) r = 
+              λ mask q. subst (λ (k : ℕ). Crossed w (taken (R .dim) mask (getD picks k 0)) r) (sym em)
+                  (f mask (ap (λ (m : ℕ). accepted (onward m)) eo ∙ ap accepted (sym (told-mask c h)) ∙ q)) in
+          let (u, e, m) = goes-on s d c w r [] (rw (es, en) (source accepts)) (sym em) (omega arith) (omega arith) long by in
+          (u, e ∙ rw (es, en, em))
 
-  -- the walk after its first hop
-  pub leave-first : (s nav mask : ℕ) (w r : Course) → 0 < promised → w .node .0 ≡ s → w .nav .0 ≡ nav → w .made ≡ 0
-      → Crossed w (taken (R .dim) mask (getD picks 0 0)) r
-      → through (take 1 (r .boards)) (hops R table picks (promised - 1) 1 (r .node .0) (r .nav .0)) ≡ leave R table picks s nav mask promised
-  unfolding through leave
-  leave-first s nav mask w r h es en em x = whole promised h
-    where
-      b : ℕ
-      b = flip s (taken (R .dim) mask (getD picks 0 0))
+    module _ (promised : ℕ) (w : Course) (u : Walks promised w) where
+      -- a later hop
+      pub walks-on : (r : Course) → w .made < promised → w .made < length picks → promised ≤ 11 → ByPick w (hopAt w) r
+          → Walks promised r × (whole r (hopAt r) ≡ whole w (hopAt w)) × (r .made ≡ w .made + 1)
+      unfolding answer
+      walks-on r h l long f =
+          subst (λ (k : ℕ). Walks k r × (whole r (hopAt r) ≡ whole w (hopAt w)) × (r .made ≡ w .made + 1)) (u .promises)
+          (goes-on (u .s) (u .d) (u .choice) w r (u .last ∷ u .legs) (u .walk) (u .made) (omega (arith, u .promises)) l (omega (arith, u .promises)) f)
 
-      whole : (p : ℕ) → 0 < p
-          → through (take 1 (r .boards)) (hops R table picks (p - 1) 1 (r .node .0) (r .nav .0)) ≡ leave R table picks s nav mask p
-      whole zero l = absurd (omega arith)
-      whole (suc k) l =
-          let e : suc k - 1 ≡ k = omega arith in
-          rw (x .node, x .nav, x .boards, es, en, em, e, take-suc-set (w .boards) 0 b (omega (arith, x .long)))
+      -- at the end the path is the boards so far
+      pub walk-ends : promised ≤ w .made → whole w (hopAt w) ≡ came w
+      unfolding answer
+      walk-ends h =
+          ap (λ (bs : List ℕ). came w ++ bs) (hops-end R (u .s) (u .d) (u .choice) (u .walk) (drop (w .made) picks) (omega (arith, u .made, u .promises)))
+          ∙ append-nil (came w)
+
+  module _ (promised : ℕ) (w : Course) (u : Walks promised w) where
+    -- short of the end Hop offers something
+    pub hop-offers : w .made < promised → Offers (hopAt w)
+    unfolding answer
+    hop-offers h = let (mask, q, on) = offers R (u .s) (u .d) (u .choice) (u .walk) (omega (arith, u .made, u .promises)) in (mask, q)
+
+    -- there are never more hops than promised
+    pub never-more : w .made ≤ promised
+    never-more = omega (arith, kept R (u .s) (u .d) (u .choice) (u .walk) .bounded, u .made, u .promises)

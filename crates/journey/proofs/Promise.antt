@@ -1,47 +1,28 @@
 -- Journey's path is one of demand 3's walks: each board that it comes to lengthens the walk.
 use mathlib.Core.Path.{_≡_, refl, ap, sym, _∙_, subst, subst₂}
+use mathlib.Core.Logic.{⊎-elim}
 use mathlib.Core.List.{List, [], _∷_, reverse, reverseAux, reverse-cons}
-use Prim.Native.Nat.{ℕ, zero, suc, _+_}
+use Prim.Native.Nat.{ℕ, _+_, _≤_, _<_}
 use native.Mathlib.Omega.{arith}
 use lib.Bits.{bitXor, xor-self}
 use lib.ListN.{length, getD, length-reverse}
 use lib.Seq.{getD-at}
 use Rattle.cube.specs.Bits.{flip}
-use Rattle.cube.specs.Reply.{Reply, refused, accepted}
+use Rattle.cube.specs.Reply.{refused, accepted}
 use Rattle.cube.proofs.Bits.{bit-pos}
-use Rattle.cube.proofs.Reply.{unless-accepted, refused-accepted}
+use Rattle.cube.proofs.Order.{lt-or-ge}
+use Rattle.cube.proofs.Reply.{unless-accepted, unless-refused, if-accepted, if-refused}
 use Rattle.report.specs.Report.{Report}
 use Rattle.safety.specs.Safety.{vectorsOf}
-use Rattle.rules.specs.Rules.{Choice, maskOf, hopsOf, onward}
+use Rattle.rules.specs.Rules.{Choice, hopsOf, onward}
 use Rattle.rules.specs.Decide.{decide}
+use Rattle.rules.proofs.Decided.{decide-hops}
 use Rattle.arrival.specs.Walk.{Leg, answer, Walk, source, go, boards}
-use Rattle.arrival.proofs.Answers.{told-mask}
-use Rattle.arrival.proofs.Walks.{length-boards, kept, offered-small}
-use Rattle.journey.specs.Journey.{via, follow, hops, leave, leaving, Route, routeBy, depart, route, journeyRefusal, journey}
+use Rattle.arrival.proofs.Walks.{length-boards, kept, offered-small, refuses-to-7}
 use Rattle.pick.specs.Pick.{taken}
 use Rattle.pick.proofs.Pick.{taken-in}
-
--- ---- acceptances
-
--- boards behind a first one
-via-accepted : (a : ℕ) (x : Reply (List ℕ)) (bs : List ℕ) → via a x ≡ accepted bs → (cs : List ℕ) × (x ≡ accepted cs) × (a ∷ cs ≡ bs)
-unfolding via
-via-accepted a (refused m) bs e = absurd (refused-accepted m bs e)
-via-accepted a (accepted cs) bs e = (cs, refl, cc)
-
--- a route is Decide's acceptance with the boards that it leads to
-route-by : (c : Choice) (x : Reply (List ℕ)) (r : Route) → routeBy c x ≡ accepted r → (c ≡ r .choice) × (x ≡ accepted (r .after))
-unfolding routeBy
-route-by c (refused m) r e = absurd (refused-accepted m r e)
-route-by c (accepted bs) r e = (cc, cc)
-
-departed : (x : Reply Choice) (on : Choice → Reply (List ℕ)) (r : Route) → depart x on ≡ accepted r
-    → (x ≡ accepted (r .choice)) × (on (r .choice) ≡ accepted (r .after))
-unfolding depart
-departed (refused m) on r e = absurd (refused-accepted m r e)
-departed (accepted c) on r e = let (same, q) = route-by c (on c) r e in (ap accepted same, rw same at q)
-
--- ---- lists
+use Rattle.journey.specs.Journey.{hops, Route, leave, route, journeyRefusal, journey}
+use Rattle.journey.proofs.Refusals.{clear-of-none, refusals-to-6}
 
 -- the end and the length of a list by the same list read backwards
 list-ends : (x y : ℕ) (xs ys : List ℕ) → x ∷ xs ≡ reverse (y ∷ ys) → (getD (x ∷ xs) (length xs) 0 ≡ y) × (length xs ≡ length ys)
@@ -49,64 +30,66 @@ list-ends x y xs ys e =
     let long : length xs ≡ length ys = omega (arith, ap length e, length-reverse (y ∷ ys)) in
     (ap (λ (zs : List ℕ). getD zs (length xs) 0) (e ∙ reverse-cons y ys) ∙ getD-at (reverse ys) y [] 0 (length xs) (length-reverse ys ∙ sym long), long)
 
--- ---- walks
-
-module _ (R : Report) (picks : List ℕ) (s d : ℕ) (c : Choice) where
-  -- the vectors that Fill writes
-  abbrev words : List ℕ
-  words = vectorsOf R
-
-  -- a walk to the end, over the boards of a walk so far and those after it
-  abbrev Ends : List Leg → ℕ → List ℕ → Type 0
-  Ends legs a after =
-      (whole : List Leg) × Walk R s d c whole d 0 × (reverseAux (a ∷ boards legs) after ≡ reverse (d ∷ boards whole))
+module _ (R : Report) (s d : ℕ) (c : Choice) where
+  -- one hop on, by a mask and a pick
+  abbrev pub Onward : List Leg → ℕ → ℕ → ℕ → Type 0
+  Onward legs a nav i = Walk R s d c (record { board = a; along = i } ∷ legs) (flip a i) (flip nav i)
 
   module _ {legs : List Leg} {a nav : ℕ} (w : Walk R s d c legs a nav) where
     -- a walk that has made its hops is at the end
-    ends : length legs ≡ hopsOf c → Ends legs a []
-    ends e =
-        let home : a ≡ d = kept R s d c w .exact .1 e in
-        let none : nav ≡ 0 = kept R s d c w .address ∙ ap (λ (x : ℕ). bitXor x d) home ∙ xor-self d in
-        (legs, subst₂ (λ (x y : ℕ). Walk R s d c legs x y) home none w, ap (λ (x : ℕ). reverse (x ∷ boards legs)) home)
+    home : hopsOf c ≤ length legs → a ≡ d
+    home h = kept R s d c w .exact .1 (omega (arith, kept R s d c w .bounded))
+
+    -- so its path ends
+    pub hops-end : (ps : List ℕ) → hopsOf c ≤ length legs → hops R ps (answer R c legs a nav) a nav ≡ []
+    unfolding hops
+    hops-end [] h = refl
+    hops-end (p ∷ ps) h = rw (kept R s d c w .there (home h))
 
     -- short of it the board offers a mask, and the walk goes on by any pick
-    offers : (length legs ≡ hopsOf c → ⊥)
-        → (mask : ℕ) × (answer R c legs a nav ≡ accepted (onward mask))
-        × ((pick : ℕ) → let i = taken (R .dim) mask pick in Walk R s d c (record { board = a; along = i } ∷ legs) (flip a i) (flip nav i))
+    pub offers : length legs < hopsOf c
+        → (mask : ℕ) × (answer R c legs a nav ≡ accepted (onward mask)) × ((pick : ℕ) → Onward legs a nav (taken (R .dim) mask pick))
     offers short =
-        let (mask, i, q, b) = kept R s d c w .offered (λ home. short (kept R s d c w .exact .0 home)) in
+        let (mask, i, q, b) = kept R s d c w .offered (λ e. omega (arith, kept R s d c w .exact .0 e)) in
         (mask, q, λ pick. go w q (taken-in (R .dim) mask pick (bit-pos mask i b) (offered-small R s d c w q)))
 
-  -- the boards after a later one
-  hops-walk : (k j : ℕ) {l : Leg} {legs : List Leg} {a nav : ℕ} (bs : List ℕ) → Walk R s d c (l ∷ legs) a nav
-      → length (l ∷ legs) + k ≡ hopsOf c → hops R words picks k j a nav ≡ accepted bs → Ends (l ∷ legs) a bs
-  unfolding hops follow answer boards
-  hops-walk zero j {l} {legs} {a} bs w e h = let none : [] ≡ bs = cc in subst (Ends (l ∷ legs) a) none (ends w (omega arith))
-  hops-walk (suc k) j {l} {legs} {a} bs w e h =
-      let (mask, q, on) = offers w (λ z. omega arith) in
-      let (cs, rest, same) = via-accepted _ _ bs (rw q at h) in
-      subst (Ends (l ∷ legs) a) same (hops-walk k (suc j) cs (on (getD picks j 0)) (omega arith) rest)
+    -- a walk to the end, over the boards of a walk so far and those after it
+    abbrev Ends : List ℕ → Type 0
+    Ends after = (whole : List Leg) × Walk R s d c whole d 0 × (reverseAux (a ∷ boards legs) after ≡ reverse (d ∷ boards whole))
 
-  -- the boards after the source
-  leave-walk : (k : ℕ) (bs : List ℕ) → decide R words s d ≡ accepted c → k ≡ hopsOf c
-      → leave R words picks s (bitXor s d) (maskOf c) k ≡ accepted bs → Ends [] s bs
-  unfolding leave answer boards
-  leave-walk zero bs a e h = let none : [] ≡ bs = cc in subst (Ends [] s) none (ends (source a) e)
-  leave-walk (suc k) bs a e h =
-      let (mask, q, on) = offers (source a) (λ z. omega arith) in
-      let (cs, rest, same) = via-accepted _ _ bs (rw (told-mask c mask q) at h) in
-      subst (Ends [] s) same (hops-walk k 1 cs (on (getD picks 0 0)) (omega arith) rest)
+    ends : hopsOf c ≤ length legs → Ends []
+    ends h =
+        let e = home h in
+        let none : nav ≡ 0 = kept R s d c w .address ∙ ap (λ (x : ℕ). bitXor x d) e ∙ xor-self d in
+        (legs, subst₂ (λ (x y : ℕ). Walk R s d c legs x y) e none w, ap (λ (x : ℕ). reverse (x ∷ boards legs)) e)
 
-module _ (R : Report) (vecs picks path : List ℕ) (s d : ℕ) (r : Route) (e : journey R vecs picks path s d ≡ accepted r) where
-  pub journey-walks : (legs : List Leg) × Walk R s d (r .choice) legs d 0 × (s ∷ r .after ≡ reverse (d ∷ boards legs))
-  unfolding journey route leaving boards
-  journey-walks =
-      let (z, q) = unless-accepted (journeyRefusal R vecs picks path s d) (route R picks s d) r e in
-      let (a, on) = departed _ _ r q in
-      leave-walk R picks s d (r .choice) _ (r .after) a refl on
+  -- the path from any board of a walk is the rest of one, where there are picks enough
+  hops-walk : (ps : List ℕ) {legs : List Leg} {a nav : ℕ} (w : Walk R s d c legs a nav) → hopsOf c ≤ length legs + length ps
+      → Ends w (hops R ps (answer R c legs a nav) a nav)
+  unfolding hops answer boards
+  hops-walk [] w h = ends w (omega arith)
+  hops-walk (p ∷ ps) {legs} w h =
+      ⊎-elim (λ (l : length legs < hopsOf c). let (mask, q, on) = offers w l in rw q (hops-walk ps (on p) (omega arith)))
+      (λ (l : hopsOf c ≤ length legs). subst (Ends w) (sym (hops-end w (p ∷ ps) l)) (ends w l)) (lt-or-ge (length legs) (hopsOf c))
 
-  pub journey-arrives : (getD (s ∷ r .after) (length (r .after)) 0 ≡ d) × (length (r .after) ≡ hopsOf (r .choice))
-  journey-arrives =
-      let (legs, w, p) = journey-walks in
-      let (last, long) = list-ends s d (r .after) (boards legs) p in
-      (last, long ∙ length-boards legs ∙ kept R s d (r .choice) w .exact .0 refl)
+module _ (R : Report) (vecs picks path : List ℕ) (s d : ℕ) where
+  module _ (r : Route) (e : journey R vecs picks path s d ≡ accepted r) where
+    pub journey-walks : (legs : List Leg) × Walk R s d (r .choice) legs d 0 × (s ∷ r .after ≡ reverse (d ∷ boards legs))
+    unfolding journey route leave answer boards
+    journey-walks =
+        let (z, q) = unless-accepted (journeyRefusal R vecs picks path s d) (route R picks s d) r e in
+        let (c, a, on) = if-accepted (leave R picks s d) (decide R (vectorsOf R) s d) r q in
+        rw (sym on) (hops-walk R s d c picks (source a) (omega (arith, decide-hops R (vectorsOf R) s d c a, clear-of-none R vecs picks path s d z .chosen)))
+
+    pub journey-arrives : (getD (s ∷ r .after) (length (r .after)) 0 ≡ d) × (length (r .after) ≡ hopsOf (r .choice))
+    journey-arrives =
+        let (legs, w, p) = journey-walks in
+        let (last, long) = list-ends s d (r .after) (boards legs) p in
+        (last, long ∙ length-boards legs ∙ kept R s d (r .choice) w .exact .0 refl)
+
+  pub journey-refuses : (m : ℕ) → journey R vecs picks path s d ≡ refused m → m ≤ 7
+  unfolding journey route
+  journey-refuses m e =
+      ⊎-elim (λ (q : journeyRefusal R vecs picks path s d ≡ m). omega (arith, refusals-to-6 R vecs picks path s d))
+      (λ (q : (journeyRefusal R vecs picks path s d ≡ 0) × (route R picks s d ≡ refused m)). refuses-to-7 R s d m (if-refused (leave R picks s d) (decide R (vectorsOf R) s d) m (q .1)))
+      (unless-refused (journeyRefusal R vecs picks path s d) (route R picks s d) m e)

@@ -1,19 +1,25 @@
--- For Journey's private functions: a journey under way as the code carries it, and what it says.
+-- For Journey's private functions: a journey under way as the code carries it.
 use Prim.Native.Nat.{ℕ, _+_}
 use mathlib.Core.Path.{_≡_}
-use mathlib.Core.Bool.{true, false, cond}
-use mathlib.Core.List.{List, [], _∷_}
+use mathlib.Core.List.{List}
 use lib.ListN.{length, take, set}
 use Rattle.cube.specs.Bits.{flip}
-use Rattle.cube.specs.Reply.{Reply, refused, accepted}
-use Rattle.rules.specs.Rules.{Next, arrived, onward}
-use Rattle.pick.specs.Pick.{taken}
-use Rattle.journey.specs.Journey.{via}
+use Rattle.cube.specs.Reply.{Reply, accepted}
+use Rattle.rules.specs.Rules.{Choice, Next, onward}
+use Rattle.journey.specs.Journey.{Route}
 use Rattle.journey.specs.declared.Course.{Course}
 
--- the boards after the source, or the refusal
-abbrev pub came : Course → Reply (List ℕ)
-came w = cond (w .refused) (refused (w .number)) (accepted (take (w .made) (w .boards)))
+-- an answer that offers something
+abbrev pub Offers : Reply Next → Type 0
+Offers x = (mask : ℕ) × (x ≡ accepted (onward mask))
+
+-- the boards after the source
+abbrev pub came : Course → List ℕ
+came w = take (w .made) (w .boards)
+
+-- the route that it has made
+abbrev pub routeOf : Choice → Course → Route
+routeOf c w = record { choice = c; after = came w }
 
 -- one hop further, along dimension i
 pub record Crossed (w : Course) (i : ℕ) (r : Course) : Type 0 where
@@ -22,22 +28,3 @@ pub record Crossed (w : Course) (i : ℕ) (r : Course) : Type 0 where
   pub nav : r .nav .0 ≡ flip (w .nav .0) i
   pub boards : r .boards ≡ set (w .boards) (w .made) (flip (w .node .0) i)
   pub made : r .made ≡ w .made + 1
-  pub over : r .over ≡ false
-  pub refused : r .refused ≡ false
-
--- what a walk that an answer stops comes to: its refusal, or the boards
-abbrev pub stopped : Reply Next → List ℕ → Reply (List ℕ)
-stopped (refused m) bs = refused m
-stopped (accepted x) bs = accepted bs
-
--- what Hop's answer makes of a walk: it is over, or one hop further
-abbrev pub Followed : ℕ → Course → Reply Next → ℕ → Course → Type 0
-Followed n w (refused m) pick r = (r .over ≡ true) × (r .made ≡ w .made) × (came r ≡ refused m)
-Followed n w (accepted arrived) pick r = (r .over ≡ true) × (r .made ≡ w .made) × (came r ≡ accepted (take (w .made) (w .boards)))
-Followed n w (accepted (onward mask)) pick r = Crossed w (taken n mask pick) r
-
--- the boards of a list in front of those after them
-unfoldable pub through : List ℕ → Reply (List ℕ) → Reply (List ℕ)
-unfolding via
-through [] r = r
-through (b ∷ bs) r = via b (through bs r)

@@ -1,9 +1,9 @@
--- Journey's path is one of demand 3's walks, and it ends at the destination after the hops promised.
-use Prim.Native.Nat.{ℕ}
+-- Journey's path is one of demand 3's walks, it ends at the destination after the hops promised, and no promise is broken on the way.
+use Prim.Native.Nat.{ℕ, _≤_}
 use mathlib.Core.Path.{_≡_}
 use mathlib.Core.List.{List, _∷_, reverse}
 use lib.ListN.{length, getD}
-use Rattle.cube.specs.Reply.{accepted}
+use Rattle.cube.specs.Reply.{refused, accepted}
 use Rattle.report.specs.Report.{Report}
 use Rattle.rules.specs.Rules.{hopsOf}
 use Rattle.arrival.specs.Walk.{Leg, Walk, boards}
@@ -22,3 +22,7 @@ JourneyArrives =
     (R : Report) (vecs picks path : List ℕ) (s d : ℕ) (r : Route)
     → journey R vecs picks path s d ≡ accepted r
     → (getD (s ∷ r .after) (length (r .after)) 0 ≡ d) × (length (r .after) ≡ hopsOf (r .choice))
+
+-- Journey's list of refusals ends at 7
+unfoldable pub JourneyRefuses : Type 0
+JourneyRefuses = (R : Report) (vecs picks path : List ℕ) (s d m : ℕ) → journey R vecs picks path s d ≡ refused m → m ≤ 7

@@ -7,21 +7,24 @@ use routing::Kind;
 use routing::Step;
 use vectors::Filled;
 ghost use mathlib.Core.Path.{_≡_};
-ghost use mathlib.Core.Bool.{true, false, _&&_};
+ghost use mathlib.Core.Bool.{_&&_};
 ghost use mathlib.Core.List.{_∷_, _++_};
-ghost use Prim.Native.Nat.{_+_, _-_, _≤_, _<_};
+ghost use Prim.Native.Nat.{ℕ, _+_, _≤_, _<_};
 ghost use lib.Dec.{leb};
 ghost use lib.ListN.{length, take, drop};
-ghost use Rattle.cube.specs.Reply.{accepted, isRefusal, OneAnswer};
+ghost use Rattle.cube.specs.Reply.{accepted, OneAnswer};
 ghost use Rattle.report.specs.Report.{report};
-ghost use Rattle.routing.specs.Hop as hopping;
+ghost use Rattle.safety.specs.Safety.{vectorsOf};
+ghost use Rattle.pick.specs.Pick.{taken};
+ghost use Rattle.rules.specs.Rules.{onward};
+ghost use Rattle.rules.specs.Decide.{decide};
 ghost use Rattle.vectors.specs.Fill as filling;
 ghost use Rattle.routing.specs.Decide as deciding;
-ghost use Rattle.rules.specs.Decide.{decide};
 ghost use Rattle.routing.specs.Decide.{chosen};
-ghost use Rattle.journey.specs.Journey.{hops, leave, leaving, routeBy, depart, journeyRefusal, journey, outcome, vectorsAfter, pathBy, pathAfter, said};
-ghost use Rattle.journey.specs.Promise.{JourneyWalks, JourneyArrives};
-ghost use Rattle.journey.specs.Course.{came, stopped, Crossed, Followed, through};
+ghost use Rattle.routing.specs.Hop as hopping;
+ghost use Rattle.journey.specs.Journey.{leave, route, journeyRefusal, journey, outcome, vectorsAfter, pathBy, pathAfter, said};
+ghost use Rattle.journey.specs.Promise.{JourneyWalks, JourneyArrives, JourneyRefuses};
+ghost use Rattle.journey.specs.Course.{Offers, routeOf, Crossed};
 
 // What Journey answers: the source's kind and the hops made.
 pub enum Trip {
@@ -29,50 +32,36 @@ pub enum Trip {
     Refused(u32),
 }
 
-// A journey under way: where the message is, its relative address, the boards after the source and how many there are, whether it is over, whether it
-// was refused, and the number.
+// A journey under way: where the message is, its relative address, the boards after the source and how many there are.
 struct Course {
     node: Node,
     nav: Nav,
     boards: [u16; 11],
     made: usize,
-    over: bool,
-    refused: bool,
-    number: u32,
-}
-
-// Whether an answer is a refusal.
-fn is_refusal(answer: Step) -> bool
-    ensures { λ r. ⌜ r ≡ isRefusal (hopping.said answer) ⌝ }
-{
-    match answer {
-        Step::Arrived => false,
-        Step::Offered(_) => false,
-        Step::Refused(_) => true,
-    }
 }
 
 impl Course {
     // The walk at its source.
     fn begin(s: Node, nav: Nav) -> Course
-        ensures { λ r. ⌜ (r .node ≡ s) × (r .nav ≡ nav) × (r .made ≡ 0) × (r .over ≡ false) × (r .refused ≡ false) ⌝ }
+        ensures { λ r. ⌜ (r .node ≡ s) × (r .nav ≡ nav) × (r .made ≡ 0) ⌝ }
     {
         Course {
             node: s,
             nav,
             boards: [0u16; 11],
             made: 0,
-            over: false,
-            refused: false,
-            number: 0,
         }
     }
 
-    // One hop further, along dimension i.
-    fn cross(self, i: u32) -> Course
-        requires { ⌜ (i ≤ 10) × (self .made < 11) ⌝ }
-        ensures { λ r. ⌜ Crossed self i r ⌝ }
+    // One hop further, along the dimension that the pick takes of those offered. On a walk every board short of the end offers some.
+    fn follow(self, n: u32, answer: Step, pick: u8) -> Course
+        requires { ⌜ (n ≤ 10) × (self .made < 11) × Offers (hopping.said answer) ⌝ }
+        ensures { λ r. ⌜ ((mask : ℕ) → hopping.said answer ≡ accepted (onward mask) → Crossed self (taken n mask pick) r) ⌝ }
     {
+        let Step::Offered(mask) = answer else {
+            return self;
+        };
+        let i = pick::taken(n, mask, pick);
         let node = self.node.neighbour(i);
         let nav = self.nav.crossed(i);
         let made = self.made;
@@ -83,94 +72,42 @@ impl Course {
             nav,
             boards,
             made: made + 1,
-            over: false,
-            refused: false,
-            number: 0,
         }
-    }
-
-    // Over, at its end or by a refusal.
-    fn stop(self, answer: Step) -> Course
-        ensures { λ r.
-            let boards = take (self .made) (self .boards) in
-            ⌜ (r .over ≡ true) × (r .made ≡ self .made) × (came r ≡ stopped (hopping.said answer) boards) ⌝ }
-    {
-        let mut w = self;
-        w.over = true;
-        w.number = answer.number();
-        w.refused = is_refusal(answer);
-        w
-    }
-
-    // What Hop's answer makes of the walk: its offer goes on by the pick, or its refusal number is handed out.
-    fn follow(self, n: u32, answer: Step, pick: u8) -> Course
-        requires { ⌜ (n ≤ 10) × (self .made < 11) ⌝ }
-        ensures { λ r. ⌜ Followed n self (hopping.said answer) pick r ⌝ }
-    {
-        let Step::Offered(mask) = answer else {
-            return self.stop(answer);
-        };
-        self.cross(pick::taken(n, mask, pick))
     }
 }
 
-// The walk from its first board on, until it is over or has made its hops.
+// The walk from an accepted source to its end: the first hop by Decide's offer, and each later one by Hop's.
 fn onward(
     n: u32,
     status: &[u8],
     links: &[u16],
     vectors: &[u16],
     picks: &[u8],
-    first: Course,
-    promised: usize,
-) -> Course
-    requires { ⌜ (n ≤ 10) × (promised ≤ 11) × (promised ≤ length (now picks)) × (1 ≤ promised)
-        × (first .made ≡ 1) × (first .refused ≡ false) ⌝ }
-    ensures { λ r.
-        let R = report n (now (status .entry)) (now (links .entry)) in
-        let rest = hops R (now (vectors .entry)) (now (picks .entry)) (promised - 1) 1 (first .node .0) (first .nav .0) in
-        ⌜ (came r ≡ through (take 1 (first .boards)) rest) × (r .made ≤ promised) ⌝ }
-{
-    let mut w = first;
-    let mut j: usize = 1;
-    while j < promised {
-        let node = w.node;
-        let nav = w.nav;
-        let answer = routing::hop(n, status, links, vectors, node, nav);
-        let next = w.follow(n, answer, picks[j]);
-        if next.over {
-            return next;
-        }
-        w = next;
-        j += 1;
-    }
-    w
-}
-
-// The walk from its source, by the mask and the hops of its offer.
-fn depart(
-    n: u32,
-    status: &[u8],
-    links: &[u16],
-    vectors: &[u16],
-    picks: &[u8],
     s: Node,
-    nav: Nav,
-    mask: u16,
-    promised: usize,
+    d: Node,
+    kind: Kind,
 ) -> Course
-    requires { ⌜ (n ≤ 10) × (promised ≤ 11) × (promised ≤ length (now picks)) ⌝ }
+    requires {
+        let R = report n (now status) (now links) in
+        ⌜ (n ≤ 10) × (n + 1 ≤ length (now picks)) × (now vectors ≡ vectorsOf R)
+        × (decide R (vectorsOf R) (s .0) (d .0) ≡ accepted (chosen kind)) ⌝ }
     ensures { λ r.
         let R = report n (now (status .entry)) (now (links .entry)) in
-        let way = leave R (now (vectors .entry)) (now (picks .entry)) (s .0) (nav .0) mask promised in
-        ⌜ (came r ≡ way) × (r .made ≤ promised) ⌝ }
+        ⌜ (routeOf (chosen kind) r ≡ leave R (now (picks .entry)) (s .0) (d .0) (chosen kind)) × (r .made ≤ n + 1) ⌝ }
 {
-    let start = Course::begin(s, nav);
+    let offer = kind.offer();
+    let promised = offer.hops as usize;
+    let start = Course::begin(s, s.to(d));
     if promised == 0 {
         return start;
     }
-    let first = start.cross(pick::taken(n, mask, picks[0]));
-    onward(n, status, links, vectors, picks, first, promised)
+    let mut w = start.follow(n, Step::Offered(offer.mask), picks[0]);
+    while w.made < promised {
+        let answer = routing::hop(n, status, links, vectors, w.node, w.nav);
+        let made = w.made;
+        w = w.follow(n, answer, picks[made]);
+    }
+    w
 }
 
 // Writes the source and the boards after it into the path's first words.
@@ -186,24 +123,21 @@ fn write_path(path: &mut [u16], s: Node, boards: [u16; 11], made: usize)
     }
 }
 
-// The answer at the end of a walk: the path is written, or its refusal number is handed out.
+// The answer at the end of a walk, whose path is written.
 fn finish(w: Course, kind: Kind, path: &mut [u16], s: Node) -> Trip
     requires { ⌜ (w .made ≤ 11) × (w .made < length (now path)) ⌝ }
     ensures { λ r.
-        let way = routeBy (chosen kind) (came w) in
-        ⌜ (said r ≡ outcome way) × (now (path .exit) ≡ pathBy way (s .0) (now (path .entry))) ⌝ }
+        let way = routeOf (chosen kind) w in
+        ⌜ (said r ≡ outcome (accepted way)) × (now (path .exit) ≡ pathBy (accepted way) (s .0) (now (path .entry))) ⌝ }
 {
-    if w.refused {
-        return Trip::Refused(w.number);
-    }
     let boards = w.boards;
-    let made = w.made;
-    write_path(path, s, boards, made);
-    Trip::Arrived(kind, made as u32)
+    write_path(path, s, boards, w.made);
+    Trip::Arrived(kind, w.made as u32)
 }
 
-// The journey by Decide's answer: its offer goes on, or its refusal number is handed out.
-fn by_decision(
+// The journey by the answers of Fill and Decide. Fill has nothing left to refuse; where Decide refuses, its number is handed out.
+fn by_answers(
+    filled: Filled,
     decision: Decision,
     n: u32,
     status: &[u8],
@@ -214,55 +148,23 @@ fn by_decision(
     s: Node,
     d: Node,
 ) -> Trip
-    requires { ⌜ (n ≤ 10) × (n + 1 ≤ length (now picks)) × (n + 2 ≤ length (now path))
-        × (deciding.said decision ≡ decide (report n (now status) (now links)) (now vectors) (s .0) (d .0)) ⌝ }
+    requires {
+        let R = report n (now status) (now links) in
+        ⌜ (n ≤ 10) × (n + 1 ≤ length (now picks)) × (n + 2 ≤ length (now path))
+        × (deciding.said decision ≡ decide R (now vectors) (s .0) (d .0)) × (now vectors ≡ vectorsOf R) × (filling.said filled ≡ accepted tt) ⌝ }
     ensures { λ r.
         let R = report n (now (status .entry)) (now (links .entry)) in
-        let way = depart (deciding.said decision) (leaving R (now (vectors .entry)) (now (picks .entry)) (s .0) (d .0)) in
-        ⌜ (said r ≡ outcome way) × (now (path .exit) ≡ pathBy way (s .0) (now (path .entry))) ⌝ }
-{
-    let Decision::Accepted(kind) = decision else {
-        return Trip::Refused(decision.number());
-    };
-    let offer = kind.offer();
-    let w = depart(
-        n,
-        status,
-        links,
-        vectors,
-        picks,
-        s,
-        s.to(d),
-        offer.mask,
-        offer.hops as usize,
-    );
-    finish(w, kind, path, s)
-}
-
-// The journey over filled vectors; where Fill refused, its number is handed out.
-fn by_fill(
-    filled: Filled,
-    n: u32,
-    status: &[u8],
-    links: &[u16],
-    vectors: &[u16],
-    picks: &[u8],
-    path: &mut [u16],
-    s: Node,
-    d: Node,
-) -> Trip
-    requires { ⌜ (n ≤ 10) × (n + 1 ≤ length (now picks)) × (n + 2 ≤ length (now path)) × (filling.said filled ≡ accepted tt) ⌝ }
-    ensures { λ r.
-        let R = report n (now (status .entry)) (now (links .entry)) in
-        let vecs = now (vectors .entry) in
-        let way = depart (decide R vecs (s .0) (d .0)) (leaving R vecs (now (picks .entry)) (s .0) (d .0)) in
+        let way = route R (now (picks .entry)) (s .0) (d .0) in
         ⌜ (said r ≡ outcome way) × (now (path .exit) ≡ pathBy way (s .0) (now (path .entry))) ⌝ }
 {
     let Filled::Done = filled else {
         return Trip::Refused(filled.number());
     };
-    let decision = routing::decide(n, status, links, vectors, s, d);
-    by_decision(decision, n, status, links, vectors, picks, path, s, d)
+    let Decision::Accepted(kind) = decision else {
+        return Trip::Refused(decision.number());
+    };
+    let w = onward(n, status, links, vectors, picks, s, d, kind);
+    finish(w, kind, path, s)
 }
 
 // Whether there are picks for n + 1 hops and room for n + 2 path words.
@@ -324,7 +226,8 @@ pub fn journey(
         return Trip::Refused(number);
     }
     let filled = vectors::fill(n, status, links, vectors);
-    by_fill(filled, n, status, links, vectors, picks, path, s, d)
+    let decision = routing::decide(n, status, links, vectors, s, d);
+    by_answers(filled, decision, n, status, links, vectors, picks, path, s, d)
 }
 
 // Journey's path is one of demand 3's walks.
@@ -335,6 +238,11 @@ pub fn journey_walks()
 // It ends at the destination, after the hops promised.
 pub fn journey_arrives()
     ensures { λ r. ⌜ JourneyArrives ⌝ }
+{}
+
+// Journey's list of refusals ends at 7.
+pub fn journey_refuses()
+    ensures { λ r. ⌜ JourneyRefuses ⌝ }
 {}
 
 // For every input the contract of `journey` allows one answer.

@@ -70,19 +70,6 @@ impl Decision {
     }
 }
 
-impl Step {
-    // The number of a refusal, 0 for an acceptance.
-    pub fn number(self) -> u32
-        ensures { λ r. ⌜ r ≡ numberOf (hopping.said self) ⌝ }
-    {
-        match self {
-            Step::Arrived => 0,
-            Step::Offered(_) => 0,
-            Step::Refused(m) => m,
-        }
-    }
-}
-
 // The mask of the dimensions among dims whose neighbour of a has bit k, as registered at a.
 fn mask(n: u32, links: &[u16], vectors: &[u16], dims: u16, a: Node, k: u32) -> u16
     requires { ⌜ (n ≤ 10) × (length (now links) ≡ 2 ^ n) × (length (now vectors) ≡ 2 ^ n) × (a .0 < 2 ^ n) × (k ≤ 16) ⌝ }

@@ -5,11 +5,10 @@ use Prim.Native.Nat.{ℕ}
 use borrow.Author.Needs.{needs}
 use denote.Ref.{now}
 use Rattle.cube.specs.Reply.{Reply, refused}
-use Rattle.vectors.specs.Fill.{fillRefusal, fill, filled}
-use Rattle.rules.specs.Decide.{decide}
 use Rattle.cube.proofs.Reply.{unless-some, unless-none, kept-some, kept-none}
 use Rattle.report.specs.Report.{Report, report}
-use Rattle.journey.specs.Journey.{Route, depart, leaving, route, journeyRefusal, journey, outcome, vectorsAfter, pathBy, pathAfter}
+use Rattle.vectors.specs.Fill.{fillRefusal, fill, filled}
+use Rattle.journey.specs.Journey.{Route, route, journeyRefusal, journey, outcome, vectorsAfter, pathBy, pathAfter}
 use Rattle.journey.proofs.Refusals.{Clear, clear-of-none}
 use Rattle.journey.proofs.journey.Statement.{statement}
 use Rattle.journey.proofs.journey.Tie as tie
@@ -47,19 +46,30 @@ returns c =
 fill-requires : tie.Need-fill-requires
 fill-requires c κs = search needs
 
+decide-requires : tie.Need-decide-requires
+decide-requires c κs = search needs
+
 -- past the refusals
 clear : (c : tie.Else1) → let s = c .before .before .before .before .before .before .before .before .before in Clear (given s) (now (s .args .vectors)) (now (s .args .picks)) (now (s .args .path))
 clear c =
     let s = c .before .before .before .before .before .before .before .before .before in
     clear-of-none (given s) (now (s .args .vectors)) (now (s .args .picks)) (now (s .args .path)) (s .args .s .0) (s .args .d .0) (sym (c .before .journey-refusal .ensures) ∙ c .if1 .left)
 
-by-fill-requires : tie.Need-by-fill-requires
-unfolding fill
-by-fill-requires c κs =
-    let tested = c .before .before .before .before .before .before in
+-- the source is decided over the vectors as they are then, and they are Fill's
+by-answers-requires : tie.Need-by-answers-requires
+unfolding fill filled
+by-answers-requires c κs =
+    let tested = c .before .before .before .before .before .before .before .before in
     let s = tested .before .before .before .before .before .before .before .before .before in
     let k = clear tested in
-    (k .dim, k .chosen, k .room, c .before .before .before .before .fill .ensures .0 ∙ unless-none (fillRefusal (given s) (now (s .args .vectors))) _ (k .fills))
+    let none = fillRefusal (given s) (now (s .args .vectors)) in (
+      k .dim,
+      k .chosen,
+      k .room,
+      search needs,
+      c .before .before .before .before .before .before .fill .ensures .1 ∙ kept-none none _ _ (k .fills),
+      c .before .before .before .before .before .before .fill .ensures .0 ∙ unless-none none _ (k .fills),
+    )
 
 same-length-3 : tie.Need-same-length-3
 same-length-3 c = search needs
@@ -68,17 +78,14 @@ same-length-4 : tie.Need-same-length-4
 same-length-4 c = search needs
 
 returns-2 : tie.Need-returns-2
-unfolding filled journey route vectorsAfter pathAfter
+unfolding filled journey vectorsAfter pathAfter
 returns-2 c =
-    let tested = c .before .before .before .before .before .before .before .before .before in
+    let tested = c .before .before .before .before .before .before .before .before .before .before .before in
     let s = tested .before .before .before .before .before .before .before .before .before in
-    let a = s .args in
     let none = sym (tested .before .journey-refusal .ensures) ∙ tested .if1 .left in
-    let written = c .before .before .before .before .before .before .before .fill .ensures .1 ∙ kept-none (fillRefusal (given s) (now (a .vectors))) _ _ (clear tested .fills) in
-    let way =
-    ap (λ (v : List ℕ). depart (decide (given s) v (a .s .0) (a .d .0)) (leaving (given s) v (now (a .picks)) (a .s .0) (a .d .0))) written
-    ∙ sym (unless-none (number s) _ none) in
-    (c .before .before .by-fill .ensures .0 ∙ ap outcome way, written ∙ sym (kept-none (number s) _ _ none), c .before .before .by-fill .ensures .1 ∙ ap (pathOf s) way)
+    let written = c .before .before .before .before .before .before .before .before .before .fill .ensures .1 ∙ kept-none (fillRefusal (given s) (now (s .args .vectors))) _ _ (clear tested .fills) in
+    let way = sym (unless-none (number s) _ none) in
+    (c .before .before .by-answers .ensures .0 ∙ ap outcome way, written ∙ sym (kept-none (number s) _ _ none), c .before .before .by-answers .ensures .1 ∙ ap (pathOf s) way)
 
 pub journey-spec : {M : Type 1} → statement M
 journey-spec =
@@ -89,7 +96,8 @@ journey-spec =
     same-length-2
     returns
     fill-requires
-    by-fill-requires
+    decide-requires
+    by-answers-requires
     same-length-3
     same-length-4
     returns-2)

@@ -1,40 +1,68 @@
--- `journey::Course::follow` meets its contract: an answer that offers nothing stops the walk, and any other takes it one hop further.
-use mathlib.Core.Path.{sym, subst}
+-- `journey::Course::follow` meets its contract: there is an offer, so the other branch is never taken.
+use mathlib.Core.Path.{refl, ap, sym, _∙_}
 use Prim.Native.Nat.{ℕ}
 use native.Mathlib.Nat.{le-trans, le-of-eq}
 use borrow.Author.Needs.{needs}
-use Rattle.routing.specs.declared.Step.{Step}
+use lib.ListN.{set}
+use Rattle.cube.specs.Bits.{flip}
+use Rattle.cube.proofs.Bits.{crossed-flip}
 use Rattle.routing.specs.Hop.{said}
+use Rattle.pick.specs.Pick.{taken}
 use Rattle.pick.proofs.Pick.{taken-le}
-use Rattle.journey.specs.Course.{Crossed, Followed}
-use Rattle.journey.proofs.Courses.{stop-follows}
+use Rattle.journey.proofs.Courses.{no-offer, same-offer}
 use Rattle.journey.proofs.Course.follow.Statement.{statement}
 use Rattle.journey.proofs.Course.follow.Tie as tie
 
 enum-known-answer : tie.Need-enum-known-answer
 enum-known-answer c = search needs
 
-stop-requires : tie.Need-stop-requires
-stop-requires c κs = search needs
-
 returns : tie.Need-returns
-returns c = stop-follows (c .before .before .args .n) (c .before .before .args .self) (c .before .before .args .answer) (c .before .before .args .pick) (c .stop .result) (c .before .match .keys2) (c .stop .ensures)
+returns c = absurd (no-offer (c .before .args .answer) (c .match .keys2) (c .before .pre .2))
 
 taken-requires : tie.Need-taken-requires
 taken-requires c κs = search needs
 
-cross-requires : tie.Need-cross-requires
-cross-requires c κs =
-    let s = c .before .before .before .before in
-    (le-trans (le-of-eq (c .taken .ensures)) (le-trans (taken-le (s .args .n) _ (s .args .pick)) (s .pre .0)), s .pre .1)
+neighbour-requires : tie.Need-neighbour-requires
+neighbour-requires c κs = search needs
+
+crossed-requires : tie.Need-crossed-requires
+crossed-requires c κs = search needs
+
+mul-boards : tie.Need-mul-boards
+mul-boards c = search needs
+
+array-write-boards : tie.Need-array-write-boards
+array-write-boards c = search needs
+
+add-t11 : tie.Need-add-t11
+add-t11 c = search needs
 
 returns-2 : tie.Need-returns-2
-returns-2 c =
-    let a = c .before .before .before .before .before .args in
-    subst (λ (x : Step). Followed (a .n) (a .self) (said x) (a .pick) (c .cross .result)) (sym (c .before .before .before .answer .given .1))
-    (subst (λ (i : ℕ). Crossed (a .self) i (c .cross .result)) (c .before .taken .ensures) (c .cross .ensures))
+returns-2 c mask q =
+    let s = c .before .before .before .before .before .before .before in
+    let x = s .args .self in
+    let i = c .before .before .before .taken in
+    let along = i .ensures ∙ ap (λ (k : ℕ). taken (s .args .n) k (s .args .pick)) (same-offer (sym (ap said (c .before .before .before .before .before .answer .given .1)) ∙ q)) in
+    let low = le-trans (le-of-eq along) (le-trans (taken-le (s .args .n) mask (s .args .pick)) (s .pre .0)) in
+    let node = c .before .before .neighbour .ensures ∙ crossed-flip (x .node .0) (i .result) low ∙ ap (flip (x .node .0)) along in
+    record {
+      long = search needs;
+      node = node;
+      nav = c .before .crossed .ensures ∙ crossed-flip (x .nav .0) (i .result) low ∙ ap (flip (x .nav .0)) along;
+      boards = ap (set (x .boards) (x .made)) node;
+      made = refl;
+    }
 
 pub follow-spec : {M : Type 1} → statement M
 follow-spec =
     tie.close
-    (tie.spec enum-known-answer stop-requires returns taken-requires cross-requires returns-2)
+    (tie.spec
+    enum-known-answer
+    returns
+    taken-requires
+    neighbour-requires
+    crossed-requires
+    mul-boards
+    array-write-boards
+    add-t11
+    returns-2)
