@@ -1,7 +1,7 @@
 -- What a job answers, in the paper's terms, and how a list of refusals is read.
 use Prim.Native.Nat.{ℕ, zero, suc}
 use mathlib.Core.Path.{_≡_}
-use mathlib.Core.Bool.{Bool, true, false, cond}
+use mathlib.Core.Bool.{Bool, cond}
 use mathlib.Core.List.{List, [], _∷_}
 
 -- a refusal with its number, or an acceptance with its values

@@ -24,7 +24,7 @@ ghost use Rattle.routing.specs.Decide.{chosen};
 ghost use Rattle.routing.specs.Hop as hopping;
 ghost use Rattle.journey.specs.Journey.{leave, route, journeyRefusal, journey, outcome, vectorsAfter, pathBy, pathAfter, said};
 ghost use Rattle.journey.specs.Promise.{JourneyWalks, JourneyArrives, JourneyRefuses};
-ghost use Rattle.journey.specs.Course.{Offers, routeOf, Crossed};
+ghost use Rattle.journey.specs.Course.{Offers, came, routeOf, hopAt, whole, Walks, Crossed};
 
 // What Journey answers: the source's kind and the hops made.
 pub enum Trip {
@@ -56,7 +56,8 @@ impl Course {
     // One hop further, along the dimension that the pick takes of those offered. On a walk every board short of the end offers some.
     fn follow(self, n: u32, answer: Step, pick: u8) -> Course
         requires { ⌜ (n ≤ 10) × (self .made < 11) × Offers (hopping.said answer) ⌝ }
-        ensures { λ r. ⌜ ((mask : ℕ) → hopping.said answer ≡ accepted (onward mask) → Crossed self (taken n mask pick) r) ⌝ }
+        ensures { λ r. ⌜ (r .made ≡ self .made + 1)
+            × ((mask : ℕ) → hopping.said answer ≡ accepted (onward mask) → Crossed self (taken n mask pick) r) ⌝ }
     {
         let Step::Offered(mask) = answer else {
             return self;
@@ -76,8 +77,33 @@ impl Course {
     }
 }
 
-// The walk from an accepted source to its end: the first hop by Decide's offer, and each later one by Hop's.
+// The walk after its first hop, to its end.
 fn onward(
+    n: u32,
+    status: &[u8],
+    links: &[u16],
+    vectors: &[u16],
+    picks: &[u8],
+    first: Course,
+    promised: usize,
+) -> Course
+    requires { let R = report n (now status) (now links) in
+        ⌜ (n ≤ 10) × (promised ≤ 11) × (promised ≤ length (now picks)) × (now vectors ≡ vectorsOf R) × Walks R promised first ⌝ }
+    ensures { λ r.
+        let R = report n (now (status .entry)) (now (links .entry)) in
+        ⌜ (came r ≡ whole R (now (picks .entry)) first (hopAt R first)) × (r .made ≤ promised) ⌝ }
+{
+    let mut w = first;
+    while w.made < promised {
+        let answer = routing::hop(n, status, links, vectors, w.node, w.nav);
+        let made = w.made;
+        w = w.follow(n, answer, picks[made]);
+    }
+    w
+}
+
+// The walk from an accepted source to its end, the first hop by Decide's offer.
+fn depart(
     n: u32,
     status: &[u8],
     links: &[u16],
@@ -87,8 +113,7 @@ fn onward(
     d: Node,
     kind: Kind,
 ) -> Course
-    requires {
-        let R = report n (now status) (now links) in
+    requires { let R = report n (now status) (now links) in
         ⌜ (n ≤ 10) × (n + 1 ≤ length (now picks)) × (now vectors ≡ vectorsOf R)
         × (decide R (vectorsOf R) (s .0) (d .0) ≡ accepted (chosen kind)) ⌝ }
     ensures { λ r.
@@ -96,18 +121,12 @@ fn onward(
         ⌜ (routeOf (chosen kind) r ≡ leave R (now (picks .entry)) (s .0) (d .0) (chosen kind)) × (r .made ≤ n + 1) ⌝ }
 {
     let offer = kind.offer();
-    let promised = offer.hops as usize;
     let start = Course::begin(s, s.to(d));
-    if promised == 0 {
+    if offer.hops == 0 {
         return start;
     }
-    let mut w = start.follow(n, Step::Offered(offer.mask), picks[0]);
-    while w.made < promised {
-        let answer = routing::hop(n, status, links, vectors, w.node, w.nav);
-        let made = w.made;
-        w = w.follow(n, answer, picks[made]);
-    }
-    w
+    let first = start.follow(n, Step::Offered(offer.mask), picks[0]);
+    onward(n, status, links, vectors, picks, first, offer.hops as usize)
 }
 
 // Writes the source and the boards after it into the path's first words.
@@ -148,8 +167,7 @@ fn by_answers(
     s: Node,
     d: Node,
 ) -> Trip
-    requires {
-        let R = report n (now status) (now links) in
+    requires { let R = report n (now status) (now links) in
         ⌜ (n ≤ 10) × (n + 1 ≤ length (now picks)) × (n + 2 ≤ length (now path))
         × (deciding.said decision ≡ decide R (now vectors) (s .0) (d .0)) × (now vectors ≡ vectorsOf R) × (filling.said filled ≡ accepted tt) ⌝ }
     ensures { λ r.
@@ -163,7 +181,7 @@ fn by_answers(
     let Decision::Accepted(kind) = decision else {
         return Trip::Refused(decision.number());
     };
-    let w = onward(n, status, links, vectors, picks, s, d, kind);
+    let w = depart(n, status, links, vectors, picks, s, d, kind);
     finish(w, kind, path, s)
 }
 
@@ -227,7 +245,18 @@ pub fn journey(
     }
     let filled = vectors::fill(n, status, links, vectors);
     let decision = routing::decide(n, status, links, vectors, s, d);
-    by_answers(filled, decision, n, status, links, vectors, picks, path, s, d)
+    by_answers(
+        filled,
+        decision,
+        n,
+        status,
+        links,
+        vectors,
+        picks,
+        path,
+        s,
+        d,
+    )
 }
 
 // Journey's path is one of demand 3's walks.

@@ -8,7 +8,6 @@ use Rattle.report.specs.Report.{Report, report}
 use Rattle.safety.specs.Safety.{vectorsOf}
 use Rattle.vectors.specs.Fill as filling
 use Rattle.routing.specs.Decide.{said}
-use Rattle.rules.specs.Rules.{Choice}
 use Rattle.rules.specs.Decide.{decide}
 use Rattle.journey.specs.Journey.{Route, leave, route, outcome, pathBy}
 use Rattle.journey.proofs.by_answers.Statement.{statement}
@@ -50,8 +49,8 @@ returns-2 c =
     let e = sym (decided (c .before .before .before .before .before .before .before .before .before .before)) ∙ ap said told in
     (rw (c .number2 .ensures, told, e), rw e)
 
-onward-requires : tie.Need-onward-requires
-onward-requires c κs =
+depart-requires : tie.Need-depart-requires
+depart-requires c κs =
     let s = c .before .before .before .before .before .before .before .before .before .before in
     (s .pre .0, s .pre .1, s .pre .4, sym (decided s) ∙ ap said (c .before .decision .given .1))
 
@@ -68,7 +67,7 @@ returns-3 c =
     let s = went .before .before .before .before .before .before .before .before .before .before .before in
     let a = s .args in
     let go = leave (given s) (now (a .picks)) (a .s .0) (a .d .0) in
-    let way = ap accepted (went .onward .ensures .0) ∙ ap (ifAccepted go) (sym (ap said (went .before .before .decision .given .1)) ∙ decided s) in
+    let way = ap accepted (went .depart .ensures .0) ∙ ap (ifAccepted go) (sym (ap said (went .before .before .decision .given .1)) ∙ decided s) in
     (c .before .before .finish .ensures .0 ∙ ap outcome way, c .before .before .finish .ensures .1 ∙ ap (λ (x : Reply Route). pathBy x (a .s .0) (now (a .path))) way)
 
 pub by-answers-spec : {M : Type 1} → statement M
@@ -83,7 +82,7 @@ by-answers-spec =
     enum-told-3
     number-requires-2
     returns-2
-    onward-requires
+    depart-requires
     finish-requires
     same-length
     returns-3)

@@ -62,13 +62,13 @@ by-answers-requires c κs =
     let tested = c .before .before .before .before .before .before .before .before in
     let s = tested .before .before .before .before .before .before .before .before .before in
     let k = clear tested in
-    let none = fillRefusal (given s) (now (s .args .vectors)) in (
+    let m = fillRefusal (given s) (now (s .args .vectors)) in (
       k .dim,
       k .chosen,
       k .room,
       search needs,
-      c .before .before .before .before .before .before .fill .ensures .1 ∙ kept-none none _ _ (k .fills),
-      c .before .before .before .before .before .before .fill .ensures .0 ∙ unless-none none _ (k .fills),
+      c .before .before .before .before .before .before .fill .ensures .1 ∙ kept-none m _ _ (k .fills),
+      c .before .before .before .before .before .before .fill .ensures .0 ∙ unless-none m _ (k .fills),
     )
 
 same-length-3 : tie.Need-same-length-3

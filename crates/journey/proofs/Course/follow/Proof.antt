@@ -38,20 +38,22 @@ add-t11 : tie.Need-add-t11
 add-t11 c = search needs
 
 returns-2 : tie.Need-returns-2
-returns-2 c mask q =
-    let s = c .before .before .before .before .before .before .before in
-    let x = s .args .self in
-    let i = c .before .before .before .taken in
-    let along = i .ensures ∙ ap (λ (k : ℕ). taken (s .args .n) k (s .args .pick)) (same-offer (sym (ap said (c .before .before .before .before .before .answer .given .1)) ∙ q)) in
-    let low = le-trans (le-of-eq along) (le-trans (taken-le (s .args .n) mask (s .args .pick)) (s .pre .0)) in
-    let node = c .before .before .neighbour .ensures ∙ crossed-flip (x .node .0) (i .result) low ∙ ap (flip (x .node .0)) along in
-    record {
-      long = search needs;
-      node = node;
-      nav = c .before .crossed .ensures ∙ crossed-flip (x .nav .0) (i .result) low ∙ ap (flip (x .nav .0)) along;
-      boards = ap (set (x .boards) (x .made)) node;
-      made = refl;
-    }
+returns-2 c = (
+  refl,
+  λ mask q.
+      let s = c .before .before .before .before .before .before .before in
+      let x = s .args .self in
+      let i = c .before .before .before .taken in
+      let along = i .ensures ∙ ap (λ (k : ℕ). taken (s .args .n) k (s .args .pick)) (same-offer (sym (ap said (c .before .before .before .before .before .answer .given .1)) ∙ q)) in
+      let low = le-trans (le-of-eq along) (le-trans (taken-le (s .args .n) mask (s .args .pick)) (s .pre .0)) in
+      let node = c .before .before .neighbour .ensures ∙ crossed-flip (x .node .0) (i .result) low ∙ ap (flip (x .node .0)) along in
+      record {
+        long = search needs;
+        node = node;
+        nav = c .before .crossed .ensures ∙ crossed-flip (x .nav .0) (i .result) low ∙ ap (flip (x .nav .0)) along;
+        boards = ap (set (x .boards) (x .made)) node;
+      },
+)
 
 pub follow-spec : {M : Type 1} → statement M
 follow-spec =
