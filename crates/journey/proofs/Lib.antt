@@ -1,3 +1,3 @@
-pub mod Courses
+pub mod Messages
 pub mod Refusals
 pub mod Promise

@@ -72,20 +72,37 @@ module _ (R : Report) (s d : ℕ) (c : Choice) where
       ⊎-elim (λ (l : length legs < hopsOf c). let (mask, q, on) = offers w l in rw q (hops-walk ps (on p) (omega arith)))
       (λ (l : hopsOf c ≤ length legs). subst (Ends w) (sym (hops-end w (p ∷ ps) l)) (ends w l)) (lt-or-ge (length legs) (hopsOf c))
 
+  -- so the path after an accepted source is a walk to the destination
+  leave-walks : (picks : List ℕ) → decide R (vectorsOf R) s d ≡ accepted c → hopsOf c ≤ length picks
+      → (legs : List Leg) × Walk R s d c legs d 0 × (s ∷ leave R picks s d c .after ≡ reverse (d ∷ boards legs))
+  unfolding leave answer boards
+  leave-walks picks a h = hops-walk picks (source a) (omega arith)
+
+  -- and has the hops promised
+  pub leave-arrives : (picks : List ℕ) → decide R (vectorsOf R) s d ≡ accepted c → hopsOf c ≤ length picks
+      → let after = leave R picks s d c .after in (getD (s ∷ after) (length after) 0 ≡ d) × (length after ≡ hopsOf c)
+  leave-arrives picks a h =
+      let (legs, w, p) = leave-walks picks a h in
+      let (last, long) = list-ends s d (leave R picks s d c .after) (boards legs) p in
+      (last, long ∙ length-boards legs ∙ kept R s d c w .exact .0 refl)
+
 module _ (R : Report) (vecs picks path : List ℕ) (s d : ℕ) where
   module _ (r : Route) (e : journey R vecs picks path s d ≡ accepted r) where
-    pub journey-walks : (legs : List Leg) × Walk R s d (r .choice) legs d 0 × (s ∷ r .after ≡ reverse (d ∷ boards legs))
-    unfolding journey route leave answer boards
-    journey-walks =
+    -- its route is the one from a source that is accepted, with picks enough
+    left : (c : Choice) × (decide R (vectorsOf R) s d ≡ accepted c) × (hopsOf c ≤ length picks) × (leave R picks s d c ≡ r)
+    unfolding journey route
+    left =
         let (z, q) = unless-accepted (journeyRefusal R vecs picks path s d) (route R picks s d) r e in
         let (c, a, on) = if-accepted (leave R picks s d) (decide R (vectorsOf R) s d) r q in
-        rw (sym on) (hops-walk R s d c picks (source a) (omega (arith, decide-hops R (vectorsOf R) s d c a, clear-of-none R vecs picks path s d z .chosen)))
+        (c, a, omega (arith, decide-hops R (vectorsOf R) s d c a, clear-of-none R vecs picks path s d z .chosen), on)
+
+    pub journey-walks : (legs : List Leg) × Walk R s d (r .choice) legs d 0 × (s ∷ r .after ≡ reverse (d ∷ boards legs))
+    unfolding leave
+    journey-walks = let (c, a, h, on) = left in rw (sym on) (leave-walks R s d c picks a h)
 
     pub journey-arrives : (getD (s ∷ r .after) (length (r .after)) 0 ≡ d) × (length (r .after) ≡ hopsOf (r .choice))
-    journey-arrives =
-        let (legs, w, p) = journey-walks in
-        let (last, long) = list-ends s d (r .after) (boards legs) p in
-        (last, long ∙ length-boards legs ∙ kept R s d (r .choice) w .exact .0 refl)
+    unfolding leave
+    journey-arrives = let (c, a, h, on) = left in rw (sym on) (leave-arrives R s d c picks a h)
 
   pub journey-refuses : (m : ℕ) → journey R vecs picks path s d ≡ refused m → m ≤ 7
   unfolding journey route

@@ -1,3 +1,3 @@
 pub mod Journey
-pub mod Course
+pub mod Message
 pub mod Promise

@@ -8,7 +8,7 @@ use routing::Step;
 use vectors::Filled;
 ghost use mathlib.Core.Path.{_≡_};
 ghost use mathlib.Core.Bool.{_&&_};
-ghost use mathlib.Core.List.{_∷_, _++_};
+ghost use mathlib.Core.List.{_++_};
 ghost use Prim.Native.Nat.{ℕ, _+_, _≤_, _<_};
 ghost use lib.Dec.{leb};
 ghost use lib.ListN.{length, take, drop};
@@ -24,7 +24,7 @@ ghost use Rattle.routing.specs.Decide.{chosen};
 ghost use Rattle.routing.specs.Hop as hopping;
 ghost use Rattle.journey.specs.Journey.{leave, route, journeyRefusal, journey, outcome, vectorsAfter, pathBy, pathAfter, said};
 ghost use Rattle.journey.specs.Promise.{JourneyWalks, JourneyArrives, JourneyRefuses};
-ghost use Rattle.journey.specs.Course.{Offers, came, routeOf, hopAt, whole, Walks, Crossed};
+ghost use Rattle.journey.specs.Message.{Offers, Crossed, Walks, ahead};
 
 // What Journey answers: the source's kind and the hops made.
 pub enum Trip {
@@ -32,126 +32,99 @@ pub enum Trip {
     Refused(u32),
 }
 
-// A journey under way: where the message is, its relative address, the boards after the source and how many there are.
-struct Course {
+// A message under way: where it is, and its relative address.
+struct Message {
     node: Node,
     nav: Nav,
-    boards: [u16; 11],
-    made: usize,
 }
 
-impl Course {
-    // The walk at its source.
-    fn begin(s: Node, nav: Nav) -> Course
-        ensures { λ r. ⌜ (r .node ≡ s) × (r .nav ≡ nav) × (r .made ≡ 0) ⌝ }
-    {
-        Course {
-            node: s,
-            nav,
-            boards: [0u16; 11],
-            made: 0,
-        }
-    }
-
+impl Message {
     // One hop further, along the dimension that the pick takes of those offered. On a walk every board short of the end offers some.
-    fn follow(self, n: u32, answer: Step, pick: u8) -> Course
-        requires { ⌜ (n ≤ 10) × (self .made < 11) × Offers (hopping.said answer) ⌝ }
-        ensures { λ r. ⌜ (r .made ≡ self .made + 1)
-            × ((mask : ℕ) → hopping.said answer ≡ accepted (onward mask) → Crossed self (taken n mask pick) r) ⌝ }
+    fn follow(self, n: u32, answer: Step, pick: u8) -> Message
+        requires { ⌜ (n ≤ 10) × Offers (hopping.said answer) ⌝ }
+        ensures { λ r. ⌜ ((mask : ℕ) → hopping.said answer ≡ accepted (onward mask) → Crossed self (taken n mask pick) r) ⌝ }
     {
         let Step::Offered(mask) = answer else {
             return self;
         };
         let i = pick::taken(n, mask, pick);
-        let node = self.node.neighbour(i);
-        let nav = self.nav.crossed(i);
-        let made = self.made;
-        let mut boards = self.boards;
-        boards[made] = node.0;
-        Course {
-            node,
-            nav,
-            boards,
-            made: made + 1,
+        Message {
+            node: self.node.neighbour(i),
+            nav: self.nav.crossed(i),
         }
     }
 }
 
-// The walk after its first hop, to its end.
+// The hops after the first, to the end: each board goes into the path behind those before it.
 fn onward(
     n: u32,
     status: &[u8],
     links: &[u16],
     vectors: &[u16],
     picks: &[u8],
-    first: Course,
+    path: &mut [u16],
+    first: Message,
     promised: usize,
-) -> Course
+)
     requires { let R = report n (now status) (now links) in
-        ⌜ (n ≤ 10) × (promised ≤ 11) × (promised ≤ length (now picks)) × (now vectors ≡ vectorsOf R) × Walks R promised first ⌝ }
+        ⌜ (n ≤ 10) × (1 ≤ promised) × (promised ≤ length (now picks)) × (promised < length (now path))
+        × (now vectors ≡ vectorsOf R) × Walks R promised 1 first ⌝ }
     ensures { λ r.
         let R = report n (now (status .entry)) (now (links .entry)) in
-        ⌜ (came r ≡ whole R (now (picks .entry)) first (hopAt R first)) × (r .made ≤ promised) ⌝ }
+        let old = now (path .entry) in
+        ⌜ now (path .exit) ≡ take 2 old ++ ahead R (now (picks .entry)) 1 first ++ drop (promised + 1) old ⌝ }
 {
-    let mut w = first;
-    while w.made < promised {
-        let answer = routing::hop(n, status, links, vectors, w.node, w.nav);
-        let made = w.made;
-        w = w.follow(n, answer, picks[made]);
+    let mut m = first;
+    let mut j: usize = 1;
+    while j < promised {
+        let answer = routing::hop(n, status, links, vectors, m.node, m.nav);
+        m = m.follow(n, answer, picks[j]);
+        j += 1;
+        path[j] = m.node.0;
     }
-    w
 }
 
-// The walk from an accepted source to its end, the first hop by Decide's offer.
+// The way from an accepted source to the end, written into the path; the first hop is by Decide's offer. Gives the hops.
 fn depart(
     n: u32,
     status: &[u8],
     links: &[u16],
     vectors: &[u16],
     picks: &[u8],
+    path: &mut [u16],
     s: Node,
     d: Node,
     kind: Kind,
-) -> Course
+) -> u32
     requires { let R = report n (now status) (now links) in
-        ⌜ (n ≤ 10) × (n + 1 ≤ length (now picks)) × (now vectors ≡ vectorsOf R)
+        ⌜ (n ≤ 10) × (n + 1 ≤ length (now picks)) × (n + 2 ≤ length (now path)) × (now vectors ≡ vectorsOf R)
         × (decide R (vectorsOf R) (s .0) (d .0) ≡ accepted (chosen kind)) ⌝ }
     ensures { λ r.
         let R = report n (now (status .entry)) (now (links .entry)) in
-        ⌜ (routeOf (chosen kind) r ≡ leave R (now (picks .entry)) (s .0) (d .0) (chosen kind)) × (r .made ≤ n + 1) ⌝ }
+        let way = leave R (now (picks .entry)) (s .0) (d .0) (chosen kind) in
+        ⌜ (r ≡ length (way .after)) × (now (path .exit) ≡ pathBy (accepted way) (s .0) (now (path .entry))) ⌝ }
 {
     let offer = kind.offer();
-    let start = Course::begin(s, s.to(d));
-    if offer.hops == 0 {
-        return start;
-    }
-    let first = start.follow(n, Step::Offered(offer.mask), picks[0]);
-    onward(n, status, links, vectors, picks, first, offer.hops as usize)
-}
-
-// Writes the source and the boards after it into the path's first words.
-fn write_path(path: &mut [u16], s: Node, boards: [u16; 11], made: usize)
-    requires { ⌜ (made ≤ 11) × (made < length (now path)) ⌝ }
-    ensures { λ r. ⌜ now (path .exit) ≡ s .0 ∷ take made boards ++ drop (made + 1) (now (path .entry)) ⌝ }
-{
     path[0] = s.0;
-    let mut i: usize = 0;
-    while i < made {
-        path[i + 1] = boards[i];
-        i += 1;
+    if offer.hops != 0 {
+        let start = Message {
+            node: s,
+            nav: s.to(d),
+        };
+        let first = start.follow(n, Step::Offered(offer.mask), picks[0]);
+        path[1] = first.node.0;
+        onward(
+            n,
+            status,
+            links,
+            vectors,
+            picks,
+            path,
+            first,
+            offer.hops as usize,
+        );
     }
-}
-
-// The answer at the end of a walk, whose path is written.
-fn finish(w: Course, kind: Kind, path: &mut [u16], s: Node) -> Trip
-    requires { ⌜ (w .made ≤ 11) × (w .made < length (now path)) ⌝ }
-    ensures { λ r.
-        let way = routeOf (chosen kind) w in
-        ⌜ (said r ≡ outcome (accepted way)) × (now (path .exit) ≡ pathBy (accepted way) (s .0) (now (path .entry))) ⌝ }
-{
-    let boards = w.boards;
-    write_path(path, s, boards, w.made);
-    Trip::Arrived(kind, w.made as u32)
+    offer.hops
 }
 
 // The journey by the answers of Fill and Decide. Fill has nothing left to refuse; where Decide refuses, its number is handed out.
@@ -181,8 +154,8 @@ fn by_answers(
     let Decision::Accepted(kind) = decision else {
         return Trip::Refused(decision.number());
     };
-    let w = depart(n, status, links, vectors, picks, s, d, kind);
-    finish(w, kind, path, s)
+    let hops = depart(n, status, links, vectors, picks, path, s, d, kind);
+    Trip::Arrived(kind, hops)
 }
 
 // Whether there are picks for n + 1 hops and room for n + 2 path words.

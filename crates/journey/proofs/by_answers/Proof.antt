@@ -2,7 +2,7 @@
 use mathlib.Core.Path.{_≡_, ap, sym, _∙_}
 use borrow.Author.Needs.{needs}
 use denote.Ref.{now}
-use Rattle.cube.specs.Reply.{Reply, accepted, ifAccepted}
+use Rattle.cube.specs.Reply.{Reply, ifAccepted}
 use Rattle.cube.proofs.Reply.{refused-accepted}
 use Rattle.report.specs.Report.{Report, report}
 use Rattle.safety.specs.Safety.{vectorsOf}
@@ -51,24 +51,23 @@ returns-2 c =
 
 depart-requires : tie.Need-depart-requires
 depart-requires c κs =
-    let s = c .before .before .before .before .before .before .before .before .before .before in
-    (s .pre .0, s .pre .1, s .pre .4, sym (decided s) ∙ ap said (c .before .decision .given .1))
-
-finish-requires : tie.Need-finish-requires
-finish-requires c κs = search needs
+    let known = c .before .before in
+    let s = known .before .before .before .before .before .before .before .before .before in
+    (s .pre .0, s .pre .1, s .pre .2, s .pre .4, sym (decided s) ∙ ap said (known .decision .given .1))
 
 same-length : tie.Need-same-length
 same-length c = search needs
 
 returns-3 : tie.Need-returns-3
-unfolding route ifAccepted
+unfolding leave route outcome ifAccepted
 returns-3 c =
-    let went = c .before .before .before .before in
-    let s = went .before .before .before .before .before .before .before .before .before .before .before in
+    let went = c .before .before in
+    let known = went .before .before .before in
+    let s = known .before .before .before .before .before .before .before .before .before in
     let a = s .args in
     let go = leave (given s) (now (a .picks)) (a .s .0) (a .d .0) in
-    let way = ap accepted (went .depart .ensures .0) ∙ ap (ifAccepted go) (sym (ap said (went .before .before .decision .given .1)) ∙ decided s) in
-    (c .before .before .finish .ensures .0 ∙ ap outcome way, c .before .before .finish .ensures .1 ∙ ap (λ (x : Reply Route). pathBy x (a .s .0) (now (a .path))) way)
+    let way = ap (ifAccepted go) (sym (ap said (known .decision .given .1)) ∙ decided s) in
+    (rw (went .depart .ensures .0) (ap outcome way), went .depart .ensures .1 ∙ ap (λ (x : Reply Route). pathBy x (a .s .0) (now (a .path))) way)
 
 pub by-answers-spec : {M : Type 1} → statement M
 by-answers-spec =
@@ -83,6 +82,5 @@ by-answers-spec =
     number-requires-2
     returns-2
     depart-requires
-    finish-requires
     same-length
     returns-3)
