@@ -1,12 +1,12 @@
 -- The laws of a message under way as the code carries it, and of the path that it leaves.
-use mathlib.Core.Path.{_≡_, refl, ap, sym, _∙_}
+use mathlib.Core.Path.{_≡_, refl, ap, ap₂, sym, _∙_}
 use mathlib.Core.Logic.{inl, inr}
-use mathlib.Core.List.{List, [], _∷_, _++_, append-assoc}
+use mathlib.Core.List.{List, [], _∷_, _++_, append-nil, append-assoc}
 use Prim.Native.Nat.{ℕ, _+_, _≤_, _<_}
 use native.Mathlib.Numerals.{add-one}
 use native.Mathlib.Omega.{arith}
 use lib.Bits.{bitXor}
-use lib.ListN.{length, getD, take, drop, set}
+use lib.ListN.{length, getD, take, drop, set, length-set, take-append-drop}
 use lib.Seq.{take-suc-set, drop-set-lt, drop-cons}
 use types.Run.{OneOf}
 use denote.Enum.Declared.{tagOf}
@@ -44,7 +44,7 @@ same-offer e = cc
 -- ---- the path
 
 -- a board written behind the first k is the next of them
-pub path-on : (path : List ℕ) (k b : ℕ) (bs : List ℕ) → k < length path → take (k + 1) (set path k b) ++ bs ≡ take k path ++ (b ∷ bs)
+path-on : (path : List ℕ) (k b : ℕ) (bs : List ℕ) → k < length path → take (k + 1) (set path k b) ++ bs ≡ take k path ++ (b ∷ bs)
 path-on path k b bs h = rw (add-one k, take-suc-set path k b h) (append-assoc (take k path) (b ∷ []) bs)
 
 -- the source written, with no board after it
@@ -53,13 +53,12 @@ path-home [] s bs h e = absurd (omega arith)
 path-home (x ∷ path) s [] h e = refl
 path-home (x ∷ path) s (b ∷ bs) h e = absurd (omega arith)
 
--- the source and the board after it written
-pub path-first : (path : List ℕ) (s b k : ℕ) → 1 < length path → 0 < k
-    → (take 2 (set (set path 0 s) 1 b) ≡ s ∷ b ∷ []) × (drop (k + 1) (set (set path 0 s) 1 b) ≡ drop (k + 1) path)
-path-first [] s b k h l = absurd (omega arith)
-path-first (x ∷ []) s b k h l = absurd (omega arith)
-path-first (x ∷ y ∷ path) s b k h l =
-    (refl, drop-set-lt (k + 1) (set (x ∷ y ∷ path) 0 s) 1 b (omega arith) ∙ drop-set-lt (k + 1) (x ∷ y ∷ path) 0 s (omega arith))
+-- the source and the board after it written, with the boards after that one
+pub path-whole : (path : List ℕ) (s b : ℕ) (bs after : List ℕ) (k : ℕ) → 1 < length path → k ≡ length after → after ≡ b ∷ bs
+    → let new = set (set path 0 s) 1 b in take 2 new ++ bs ++ drop (k + 1) new ≡ s ∷ after ++ drop (length after + 1) path
+path-whole [] s b bs after k h ek ea = absurd (omega arith)
+path-whole (x ∷ []) s b bs after k h ek ea = absurd (omega arith)
+path-whole (x ∷ y ∷ path) s b bs after k h ek ea = rw (ek, ea, add-one)
 
 -- ---- the message
 
@@ -96,18 +95,36 @@ module _ (R : Report) (picks : List ℕ) where
         let (u, e) = goes-on (m .node .0) d c [] m r 0 (rw ea (source accepts)) refl (omega arith) (omega arith) (λ mask q. f mask (told-on ∙ q)) in
         (rw ek u, rw ea at e)
 
-  module _ (promised j : ℕ) (m : Message) where
-    -- a later hop
-    pub walks-on : (r : Message) → Walks R promised j m → j < promised → promised ≤ length picks
+  -- what the hops after the first keep: after j of them all the message is on its walk, and the boards in the path and those ahead come to the same
+  abbrev pub Under : ℕ → List ℕ → Message → List ℕ → Message → ℕ → Type 0
+  Under promised old first path m j =
+      (j ≤ promised) × (length path ≡ length old) × (drop (promised + 1) path ≡ drop (promised + 1) old) × Walks R promised j m
+      × (take (j + 1) path ++ ahead R picks j m ≡ take 2 old ++ ahead R picks 1 first)
+
+  module _ (promised : ℕ) (old : List ℕ) (first : Message) (path : List ℕ) (m : Message) (j : ℕ) where
+    -- one more hop, and its board written
+    pub under-next : (r : Message) → Under promised old first path m j → j < promised → promised ≤ length picks → promised < length old
         → ((mask : ℕ) → hop R (vectorsOf R) (m .node .0) (m .nav .0) ≡ accepted (onward mask) → Crossed m (taken (R .dim) mask (getD picks j 0)) r)
-        → Walks R promised (j + 1) r × (ahead R picks j m ≡ r .node .0 ∷ ahead R picks (j + 1) r)
+        → Under promised old first (set path (j + 1) (r .node .0)) r (j + 1)
     unfolding answer
-    walks-on r (s, d, c, l, legs, v, ej, ep) h k f = rw (sym ep) (goes-on s d c (l ∷ legs) m r j v ej (omega arith) (omega arith) f)
+    under-next r (few, long, rest, (s, d, c, l, legs, v, ej, ep), whole) h k room f =
+        let (u, e) = goes-on s d c (l ∷ legs) m r j v ej (omega arith) (omega arith) f in (
+          omega arith,
+          length-set path (j + 1) (r .node .0) ∙ long,
+          drop-set-lt (promised + 1) path (j + 1) (r .node .0) (omega arith) ∙ rest,
+          rw ep at u,
+          path-on path (j + 1) (r .node .0) _ (omega arith) ∙ ap (λ (bs : List ℕ). take (j + 1) path ++ bs) (sym e) ∙ whole,
+        )
 
     -- at the end nothing is ahead
-    pub walk-ends : Walks R promised j m → promised ≤ j → ahead R picks j m ≡ []
+    pub under-end : Under promised old first path m j → promised ≤ j → path ≡ take 2 old ++ ahead R picks 1 first ++ drop (promised + 1) old
     unfolding answer
-    walk-ends (s, d, c, l, legs, v, ej, ep) h = hops-end R s d c v (drop j picks) (omega arith)
+    under-end (few, long, rest, (s, d, c, l, legs, v, ej, ep), whole) h =
+        let same : promised ≡ j = omega arith in
+        let none = hops-end R s d c v (drop j picks) (omega arith) in
+        let boards : take (promised + 1) path ≡ take 2 old ++ ahead R picks 1 first =
+        rw same (sym (append-nil _) ∙ ap (λ (bs : List ℕ). take (j + 1) path ++ bs) (sym none) ∙ whole) in
+        sym (take-append-drop (promised + 1) path) ∙ ap₂ (λ (xs ys : List ℕ). xs ++ ys) boards rest
 
 -- short of it Hop offers something
 pub hop-offers : (R : Report) (promised j : ℕ) (m : Message) → Walks R promised j m → j < promised → Offers (hop R (vectorsOf R) (m .node .0) (m .nav .0))

@@ -1,10 +1,10 @@
 -- `journey::depart` meets its contract: the first hop by the source's mask, and the rest by Hop's.
-use mathlib.Core.Path.{_≡_, refl, ap, ap₂, sym, _∙_}
-use mathlib.Core.List.{List, _∷_, _++_}
+use mathlib.Core.Path.{_≡_, refl, sym, _∙_}
+use mathlib.Core.List.{List, _∷_}
 use Prim.Native.Nat.{ℕ, _+_, _≤_}
 use native.Mathlib.Omega.{arith}
 use borrow.Author.Needs.{needs}
-use lib.ListN.{length, drop, set, length-set}
+use lib.ListN.{length, set, length-set}
 use denote.Ref.{now}
 use Rattle.report.specs.Report.{Report, report}
 use Rattle.rules.proofs.Decided.{decide-hops}
@@ -13,7 +13,7 @@ use Rattle.journey.specs.Journey.{leave, pathBy}
 use Rattle.journey.specs.Message.{Walks, ahead}
 use Rattle.journey.specs.declared.Message.{Message}
 use Rattle.journey.proofs.Promise.{leave-arrives}
-use Rattle.journey.proofs.Messages.{path-home, path-first, sets-out}
+use Rattle.journey.proofs.Messages.{path-home, path-whole, sets-out}
 use Rattle.journey.proofs.depart.Statement.{statement}
 use Rattle.journey.proofs.depart.Tie as tie
 
@@ -100,12 +100,7 @@ returns c =
     let offered = went .before .before .before .before .before in
     let s = offered .before .before .before .before .before .before in
     let hops = few offered .1 in
-    let (start, rest) = path-first (now (s .args .path)) (s .args .s .0) (went .follow .result .node .0) (offered .offer .result .hops) (omega (arith, s .pre .2)) (omega (arith, went .before .before .before .if1 .taken)) in (
-      hops,
-      c .before .before .onward .ensures
-          ∙ ap₂ (λ (xs ys : List ℕ). xs ++ ahead (given s) (now (s .args .picks)) 1 (went .follow .result) ++ ys) start (rest ∙ ap (λ (k : ℕ). drop (k + 1) (now (s .args .path))) hops)
-          ∙ ap (λ (bs : List ℕ). s .args .s .0 ∷ bs ++ drop (length (after s) + 1) (now (s .args .path))) (sym (first went .1)),
-    )
+    (hops, c .before .before .onward .ensures ∙ path-whole (now (s .args .path)) (s .args .s .0) _ _ (after s) _ (omega (arith, s .pre .2)) hops (first went .1))
 
 same-length-2 : tie.Need-same-length-2
 same-length-2 c = search needs
