@@ -128,16 +128,12 @@ def journey(n, status, links, length, picks, words, s, d):
         return chosen, vectors, path
     kind, offer, hops = chosen
     a, walked = s, [s]
-    while True:
-        if a == d:
-            break
+    while a != d:
         dims = [i for i in range(1, n + 1) if offer >> (i - 1) & 1]
         a ^= 2 ** (dims[picks[len(walked) - 1] % len(dims)] - 1)
         walked.append(a)
         if a != d:
             offer = mask(n, links, vectors, a, a ^ d, weight(a ^ d) - 1)
-            if offer == 0:
-                return 9, vectors, path
     return (kind, chosen[1], hops, len(walked) - 1), vectors, walked + path[len(walked):]
 
 

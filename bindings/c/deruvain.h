@@ -185,7 +185,7 @@ struct deruvain_answer deruvain_hop(uint32_t n,
  * the offered dimension of rank picks[j-1] mod c, rank 0 the lowest. Writes the hops+1 node
  * numbers from source to destination into path. picks has at least n+1 elements, path n+2.
  * The mask is the source's offer.
- * Refuses by 1 to 9. After 7, 8 and 9 the vectors are filled and the path is unchanged.
+ * Refuses by 1 to 7. After 7 the vectors are filled and the path is unchanged.
  */
 struct deruvain_answer deruvain_journey(uint32_t n,
                                         const uint8_t *status, size_t status_len,

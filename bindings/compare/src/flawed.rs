@@ -28,6 +28,7 @@ pub enum Flaw {
     BitZeroAcrossBadLink,
     HighBitsOfVectors,
     JourneyFillsFirst,
+    JourneyDecidesFirst,
     JourneyLeavesVectors,
     PathOnRefusal,
     PathOneTooLong,
@@ -71,7 +72,7 @@ pub enum Flaw {
 }
 
 impl Flaw {
-    pub const ALL: [Flaw; 61] = [
+    pub const ALL: [Flaw; 62] = [
         Flaw::DimensionWraps,
         Flaw::LengthsWrap,
         Flaw::FifthSweepWorks,
@@ -93,6 +94,7 @@ impl Flaw {
         Flaw::BitZeroAcrossBadLink,
         Flaw::HighBitsOfVectors,
         Flaw::JourneyFillsFirst,
+        Flaw::JourneyDecidesFirst,
         Flaw::JourneyLeavesVectors,
         Flaw::PathOnRefusal,
         Flaw::PathOneTooLong,
@@ -395,6 +397,7 @@ impl Jobs for Flawed {
                 path.iter_mut().skip(answer.hops as usize + 1).take(1).for_each(|word| *word = 0)
             }
             4..=6 if self.has(Flaw::JourneyFillsFirst) => drop(Plain.fill(n, &status, &links, vectors)),
+            0 | 7 if self.has(Flaw::JourneyDecidesFirst) => return Plain.decide(n, &status, &links, &before, s, d),
             7 if self.has(Flaw::JourneyLeavesVectors) => vectors.copy_from_slice(&before),
             7 if self.has(Flaw::PathOnRefusal) => path[0] = s,
             _ => {}

@@ -157,8 +157,8 @@ impl Cube<'_> {
         Answer::accepted(OFFERED, mask(&p), 0)
     }
 
-    /// The nodes from s on, by the source's offer and then by the hops; or the refusal on the way.
-    fn walk(&self, vectors: &[u16], picks: &[u8], s: usize, d: usize, offer: u32) -> Result<Vec<u16>, u32> {
+    /// The nodes from s on, by the source's offer and then by the hops, over filled vectors.
+    fn walk(&self, vectors: &[u16], picks: &[u8], s: usize, d: usize, offer: u32) -> Vec<u16> {
         let mut path = vec![s as u16];
         let mut offer = offer;
         let mut a = s;
@@ -169,12 +169,10 @@ impl Cube<'_> {
             a = self.neighbour(a, picked(self.n, offer, *pick));
             path.push(a as u16);
             let answer = self.hop(vectors, a, a ^ d);
-            if answer.refusal != 0 {
-                return Err(answer.refusal);
-            }
+            assert_eq!(answer.refusal, 0, "a board on the way refuses");
             offer = answer.mask;
         }
-        Ok(path)
+        path
     }
 }
 
@@ -293,16 +291,13 @@ pub fn journey(
     }
     vectors.copy_from_slice(&cube.vectors());
     let decision = cube.decide(vectors, s, d);
+    assert!(decision.refusal == 0 || decision.refusal == 7, "filled vectors break a promise");
     if decision.refusal != 0 {
         return decision;
     }
-    match cube.walk(vectors, picks, s, d, decision.mask) {
-        Err(refusal) => Answer::refused(refusal),
-        Ok(nodes) => {
-            path[..nodes.len()].copy_from_slice(&nodes);
-            Answer { hops: nodes.len() as u32 - 1, ..decision }
-        }
-    }
+    let nodes = cube.walk(vectors, picks, s, d, decision.mask);
+    path[..nodes.len()].copy_from_slice(&nodes);
+    Answer { hops: nodes.len() as u32 - 1, ..decision }
 }
 
 fn little_endian(bytes: &[u8]) -> usize {

@@ -177,7 +177,7 @@ fn ranked(mut mask: u32, rank: u32) -> u32 {
     mask.trailing_zeros()
 }
 
-/// Writes the walk into `path` and gives its number of hops.
+/// Writes the walk over filled vectors into `path` and gives its number of hops.
 fn walk(
     links: &[u16],
     vectors: &[u16],
@@ -185,19 +185,17 @@ fn walk(
     path: &mut [u16],
     ends: (usize, usize),
     mut offer: u32,
-) -> Result<usize, u32> {
+) -> usize {
     let (mut node, destination) = ends;
-    let mut taken = [0u16; 12];
     let mut hops = 0;
-    taken[0] = node as u16;
+    path[0] = node as u16;
     while offer != 0 {
         node ^= 1 << ranked(offer, picks[hops] as u32 % offer.count_ones());
         hops += 1;
-        taken[hops] = node as u16;
-        offer = hop_at(links, vectors, node, (node ^ destination) as u32)?;
+        path[hops] = node as u16;
+        offer = hop_at(links, vectors, node, (node ^ destination) as u32).expect("a board on the way has an offer");
     }
-    path[..=hops].copy_from_slice(&taken[..=hops]);
-    Ok(hops)
+    hops
 }
 
 #[allow(clippy::too_many_arguments)]
@@ -231,7 +229,7 @@ fn try_journey(
     check_ends(size, status, ends.0, ends.1)?;
     all_rounds(n, status, links, vectors);
     let decision = decide_at(n, links, vectors, ends.0, ends.1)?;
-    let hops = walk(links, vectors, picks, path, ends, decision.mask)?;
+    let hops = walk(links, vectors, picks, path, ends, decision.mask);
     Ok(Answer { hops: hops as u32, ..decision })
 }
 

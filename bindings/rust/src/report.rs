@@ -255,7 +255,8 @@ impl Report {
 
     /// The whole way from source to destination. At hop j, with c dimensions offered, it takes
     /// the offered dimension of rank (pick j mod c), rank 0 the lowest; there are at least n+1
-    /// picks.
+    /// picks. It fills vectors of its own, so nothing refuses on the way: its refusals end at
+    /// [`Refusal::NoRoute`].
     ///
     /// ```
     /// use deruvain::{Node, Report};
