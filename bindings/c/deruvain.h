@@ -34,7 +34,7 @@ extern "C" {
 #endif
 
 /* The version of this header, of the Rust crate and of the programs. */
-#define DERUVAIN_VERSION "1.0.0"
+#define DERUVAIN_VERSION "1.0.1"
 
 /* The largest cube: its dimension, its nodes, the bytes of its record. */
 #define DERUVAIN_LARGEST_N 10

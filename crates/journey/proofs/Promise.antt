@@ -21,7 +21,7 @@ use Rattle.arrival.specs.Walk.{Leg, answer, Walk, source, go, boards}
 use Rattle.arrival.proofs.Walks.{length-boards, kept, offered-small, refuses-to-7}
 use Rattle.pick.specs.Pick.{taken}
 use Rattle.pick.proofs.Pick.{taken-in}
-use Rattle.journey.specs.Journey.{hops, Route, leave, route, journeyRefusal, journey}
+use Rattle.journey.specs.Journey.{hops, Route, leave, route, journeyRefusal, journey, outcome}
 use Rattle.journey.proofs.Refusals.{clear-of-none, refusals-to-6}
 
 -- the end and the length of a list by the same list read backwards
@@ -104,9 +104,9 @@ module _ (R : Report) (vecs picks path : List ℕ) (s d : ℕ) where
     unfolding leave
     journey-arrives = let (c, a, h, on) = left in rw (sym on) (leave-arrives R s d c picks a h)
 
-  pub journey-refuses : (m : ℕ) → journey R vecs picks path s d ≡ refused m → m ≤ 7
-  unfolding journey route
+  pub journey-refuses : (m : ℕ) → outcome (journey R vecs picks path s d) ≡ refused m → m ≤ 7
+  unfolding journey route outcome
   journey-refuses m e =
       ⊎-elim (λ (q : journeyRefusal R vecs picks path s d ≡ m). omega (arith, refusals-to-6 R vecs picks path s d))
       (λ (q : (journeyRefusal R vecs picks path s d ≡ 0) × (route R picks s d ≡ refused m)). refuses-to-7 R s d m (if-refused (leave R picks s d) (decide R (vectorsOf R) s d) m (q .1)))
-      (unless-refused (journeyRefusal R vecs picks path s d) (route R picks s d) m e)
+      (unless-refused (journeyRefusal R vecs picks path s d) (route R picks s d) m (if-refused _ (journey R vecs picks path s d) m e))

@@ -1,4 +1,4 @@
--- Journey's path is one of demand 3's walks, it ends at the destination after the hops promised, and no promise is broken on the way.
+-- Journey's path is one of demand 3's walks, it ends at the destination after the hops promised, and no refusal is above 7.
 use Prim.Native.Nat.{ℕ, _≤_}
 use mathlib.Core.Path.{_≡_}
 use mathlib.Core.List.{List, _∷_, reverse}
@@ -7,7 +7,7 @@ use Rattle.cube.specs.Reply.{refused, accepted}
 use Rattle.report.specs.Report.{Report}
 use Rattle.rules.specs.Rules.{hopsOf}
 use Rattle.arrival.specs.Walk.{Leg, Walk, boards}
-use Rattle.journey.specs.Journey.{Route, journey}
+use Rattle.journey.specs.Journey.{Route, journey, outcome}
 
 -- Every journey is one of demand 3's walks, arrived: the path is the boards that its legs left, and the destination. Legs stand latest first.
 unfoldable pub JourneyWalks : Type 0
@@ -23,6 +23,6 @@ JourneyArrives =
     → journey R vecs picks path s d ≡ accepted r
     → (getD (s ∷ r .after) (length (r .after)) 0 ≡ d) × (length (r .after) ≡ hopsOf (r .choice))
 
--- Journey's list of refusals ends at 7
+-- whatever it is given, its refusals end at 7
 unfoldable pub JourneyRefuses : Type 0
-JourneyRefuses = (R : Report) (vecs picks path : List ℕ) (s d m : ℕ) → journey R vecs picks path s d ≡ refused m → m ≤ 7
+JourneyRefuses = (R : Report) (vecs picks path : List ℕ) (s d m : ℕ) → outcome (journey R vecs picks path s d) ≡ refused m → m ≤ 7
