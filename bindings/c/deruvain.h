@@ -68,9 +68,9 @@ enum deruvain_refusal {
     DERUVAIN_REFUSED_DESTINATION = 6,
     /* no route by the rules */
     DERUVAIN_REFUSED_NO_ROUTE = 7,
-    /* own bit says yes, no neighbour bears it out */
+    /* at decide: own bit says yes, no neighbour bears it out */
     DERUVAIN_REFUSED_NOT_BORNE_OUT = 8,
-    /* no dimension to offer at a later node */
+    /* at hop: no dimension to offer */
     DERUVAIN_REFUSED_NOTHING_TO_OFFER = 9,
     /* record malformed */
     DERUVAIN_REFUSED_MALFORMED = 10,

@@ -113,16 +113,8 @@ fn depart(
         };
         let first = start.follow(n, Step::Offered(offer.mask), picks[0]);
         path[1] = first.node.0;
-        onward(
-            n,
-            status,
-            links,
-            vectors,
-            picks,
-            path,
-            first,
-            offer.hops as usize,
-        );
+        let promised = offer.hops as usize;
+        onward(n, status, links, vectors, picks, path, first, promised);
     }
     offer.hops
 }

@@ -65,8 +65,8 @@ slice-write-path-2 c =
     let s = c .before .before .before .before .before .before .before .before .before .before .before in
     omega (arith, length-set (now (s .args .path)) 0 (s .args .s .0), s .pre .2)
 
-cast-onward : tie.Need-cast-onward
-cast-onward c = search needs
+cast-promised : tie.Need-cast-promised
+cast-promised c = search needs
 
 -- the path with its first two boards is as long as before
 long : (path : List ℕ) (s b : ℕ) → length (set (set path 0 s) 1 b) ≡ length path
@@ -123,7 +123,7 @@ depart-spec =
     shared-slice-read-follow
     follow-requires
     slice-write-path-2
-    cast-onward
+    cast-promised
     onward-requires
     same-length
     returns
