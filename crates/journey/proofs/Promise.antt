@@ -31,7 +31,7 @@ list-ends x y xs ys e =
     (ap (λ (zs : List ℕ). getD zs (length xs) 0) (e ∙ reverse-cons y ys) ∙ getD-at (reverse ys) y [] 0 (length xs) (length-reverse ys ∙ sym long), long)
 
 module _ (R : Report) (s d : ℕ) (c : Choice) where
-  -- one hop on, by a mask and a pick
+  -- the walk one hop on, along dimension i
   abbrev pub Onward : List Leg → ℕ → ℕ → ℕ → Type 0
   Onward legs a nav i = Walk R s d c (record { board = a; along = i } ∷ legs) (flip a i) (flip nav i)
 

@@ -33,6 +33,16 @@ pub record Route : Type 0 where
   pub choice : Choice
   pub after : List ℕ
 
+-- the one from a source s that is accepted
+unfoldable pub leave : Report → (picks : List ℕ) → (s d : ℕ) → Choice → Route
+unfolding hops told
+leave R picks s d c = record { choice = c; after = hops R picks (accepted (told c)) s (bitXor s d) }
+
+-- the one that Decide accepts over Fill's vectors, or its refusal
+unfoldable pub route : Report → (picks : List ℕ) → (s d : ℕ) → Reply Route
+unfolding ifAccepted leave decide cube vectors
+route R picks s d = ifAccepted (leave R picks s d) (decide R (vectorsOf R) s d)
+
 -- the refusals before filling, lowest first
 unfoldable pub journeyRefusal : Report → (vecs picks path : List ℕ) → (s d : ℕ) → ℕ
 unfolding refusal dimension allSized narrow within cube
@@ -44,17 +54,7 @@ journeyRefusal R vecs picks path s d =
     ∷ (not (within (R .dim) s && within (R .dim) d), 4)
     ∷ bothWork R s d)
 
--- by an acceptance, the boards after the source
-unfoldable pub leave : Report → (picks : List ℕ) → (s d : ℕ) → Choice → Route
-unfolding hops told
-leave R picks s d c = record { choice = c; after = hops R picks (accepted (told c)) s (bitXor s d) }
-
--- the route by Decide over Fill's vectors
-unfoldable pub route : Report → (picks : List ℕ) → (s d : ℕ) → Reply Route
-unfolding ifAccepted leave decide cube vectors
-route R picks s d = ifAccepted (leave R picks s d) (decide R (vectorsOf R) s d)
-
--- the route, or the refusal
+-- what comes of the whole: a refusal before filling, or the route
 unfoldable pub journey : Report → (vecs picks path : List ℕ) → (s d : ℕ) → Reply Route
 unfolding journeyRefusal unless route
 journey R vecs picks path s d = unless (journeyRefusal R vecs picks path s d) (route R picks s d)

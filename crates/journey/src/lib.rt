@@ -39,12 +39,13 @@ struct Message {
 }
 
 impl Message {
-    // One hop further, along the dimension that the pick takes of those offered. On a walk every board short of the end offers some.
+    // One hop further, along the dimension that the pick takes of those offered.
     fn follow(self, n: u32, answer: Step, pick: u8) -> Message
         requires { ⌜ (n ≤ 10) × Offers (hopping.said answer) ⌝ }
         ensures { λ r. ⌜ ((mask : ℕ) → hopping.said answer ≡ accepted (onward mask) → Crossed self (taken n mask pick) r) ⌝ }
     {
         let Step::Offered(mask) = answer else {
+            // Never taken: on a walk every board short of the end offers something.
             return self;
         };
         let i = pick::taken(n, mask, pick);
@@ -119,7 +120,7 @@ fn depart(
     offer.hops
 }
 
-// The journey by the answers of Fill and Decide. Fill has nothing left to refuse; where Decide refuses, its number is handed out.
+// The journey by the answers of Fill and Decide; where Decide refuses, its number is handed out.
 fn by_answers(
     filled: Filled,
     decision: Decision,
@@ -141,6 +142,7 @@ fn by_answers(
         ⌜ (said r ≡ outcome way) × (now (path .exit) ≡ pathBy way (s .0) (now (path .entry))) ⌝ }
 {
     let Filled::Done = filled else {
+        // Never taken: what Fill refuses is refused before filling.
         return Trip::Refused(filled.number());
     };
     let Decision::Accepted(kind) = decision else {
