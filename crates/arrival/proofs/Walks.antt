@@ -4,7 +4,6 @@ use mathlib.Core.Bool.{true, not, and-eq-true-iff}
 use mathlib.Core.Logic.{inl, inr, ⊎-elim}
 use mathlib.Core.List.{List, [], _∷_, _++_, append-assoc}
 use Prim.Native.Nat.{ℕ, zero, suc, _+_, _-_, _^_, _≤_, _<_}
-use native.Mathlib.Nat.{le-of-eq}
 use native.Mathlib.Omega.{arith}
 use borrow.Author.Tests.{ne-eqb}
 use lib.Bits.{bitXor, xor-lt}
@@ -89,19 +88,20 @@ module _ (R : Report) where
           there = ap (C .works) (u .at .address) ∙ u .at .there;
         }))
 
-    -- over Fill's vectors Decide refuses by no number above 7
-    pub refuses-to-7 : (m : ℕ) → decide R words s d ≡ refused m → m ≤ 7
+    -- over Fill's vectors Decide refuses by 1 to 7
+    pub refuses-to-7 : (m : ℕ) → decide R words s d ≡ refused m → (1 ≤ m) × (m ≤ 7)
     unfolding decide
-    refuses-to-7 m e =
-        ⊎-elim (λ (q : decideRefusal R words s d ≡ m). omega (arith, decide-refusal-le R words s d)) rule
-        (unless-refused (decideRefusal R words s d) ruled m e)
+    refuses-to-7 m e = ⊎-elim test rule (unless-refused (decideRefusal R words s d) ruled m e)
       where
-        rule : (decideRefusal R words s d ≡ 0) × (ruled ≡ refused m) → m ≤ 7
-        rule (z, q) = le-of-eq (rw q at (source-fair (start (decide-clear R words s d z))))
+        test : (1 ≤ decideRefusal R words s d) × (decideRefusal R words s d ≡ m) → (1 ≤ m) × (m ≤ 7)
+        test (l, q) = (omega arith, omega (arith, decide-refusal-le R words s d))
+
+        rule : (decideRefusal R words s d ≡ 0) × (ruled ≡ refused m) → (1 ≤ m) × (m ≤ 7)
+        rule (z, q) = let seven : m ≡ 7 = rw q at (source-fair (start (decide-clear R words s d z))) in (omega arith, omega arith)
 
     -- so never by 8
     pub no-eight : decide R words s d ≡ refused 8 → ⊥
-    no-eight e = omega (arith, refuses-to-7 8 e)
+    no-eight e = omega (arith, refuses-to-7 8 e .1)
 
     module _ (c : Choice) where
       module _ (accepts : decide R words s d ≡ accepted c) where

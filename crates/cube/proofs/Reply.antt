@@ -48,10 +48,10 @@ unfolding kept
 kept-none m new old e = rw e
 
 -- a refusal is one of the list's, or the rule's
-pub unless-refused : {A : Type 0} (m : ℕ) (r : Reply A) (k : ℕ) → unless m r ≡ refused k → (m ≡ k) ⊎ ((m ≡ 0) × (r ≡ refused k))
+pub unless-refused : {A : Type 0} (m : ℕ) (r : Reply A) (k : ℕ) → unless m r ≡ refused k → ((1 ≤ m) × (m ≡ k)) ⊎ ((m ≡ 0) × (r ≡ refused k))
 unfolding unless
 unless-refused zero r k e = inr (refl, e)
-unless-refused (suc m) r k e = inl (cc)
+unless-refused (suc m) r k e = inl (omega arith, cc)
 
 -- what an acceptance led to is accepted
 pub if-accepted : {A B : Type 0} (go : A → B) (x : Reply A) (y : B) → ifAccepted go x ≡ accepted y → (z : A) × (x ≡ accepted z) × (go z ≡ y)

@@ -104,9 +104,15 @@ module _ (R : Report) (vecs picks path : List ℕ) (s d : ℕ) where
     unfolding leave
     journey-arrives = let (c, a, h, on) = left in rw (sym on) (leave-arrives R s d c picks a h)
 
-  pub journey-refuses : (m : ℕ) → outcome (journey R vecs picks path s d) ≡ refused m → m ≤ 7
+  pub journey-refuses : (m : ℕ) → outcome (journey R vecs picks path s d) ≡ refused m → (1 ≤ m) × (m ≤ 7)
   unfolding journey route outcome
-  journey-refuses m e =
-      ⊎-elim (λ (q : journeyRefusal R vecs picks path s d ≡ m). omega (arith, refusals-to-6 R vecs picks path s d))
-      (λ (q : (journeyRefusal R vecs picks path s d ≡ 0) × (route R picks s d ≡ refused m)). refuses-to-7 R s d m (if-refused (leave R picks s d) (decide R (vectorsOf R) s d) m (q .1)))
-      (unless-refused (journeyRefusal R vecs picks path s d) (route R picks s d) m (if-refused _ (journey R vecs picks path s d) m e))
+  journey-refuses m e = ⊎-elim before after (unless-refused number (route R picks s d) m (if-refused _ (journey R vecs picks path s d) m e))
+    where
+      number : ℕ
+      number = journeyRefusal R vecs picks path s d
+
+      before : (1 ≤ number) × (number ≡ m) → (1 ≤ m) × (m ≤ 7)
+      before (l, q) = (omega arith, omega (arith, refusals-to-6 R vecs picks path s d))
+
+      after : (number ≡ 0) × (route R picks s d ≡ refused m) → (1 ≤ m) × (m ≤ 7)
+      after (z, q) = refuses-to-7 R s d m (if-refused (leave R picks s d) (decide R (vectorsOf R) s d) m q)

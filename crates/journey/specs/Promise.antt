@@ -1,4 +1,4 @@
--- Journey's path is one of demand 3's walks, it ends at the destination after the hops promised, and no refusal is above 7.
+-- Journey's path is one of demand 3's walks, it ends at the destination after the hops promised, and Journey refuses by 1 to 7.
 use Prim.Native.Nat.{ℕ, _≤_}
 use mathlib.Core.Path.{_≡_}
 use mathlib.Core.List.{List, _∷_, reverse}
@@ -23,6 +23,6 @@ JourneyArrives =
     → journey R vecs picks path s d ≡ accepted r
     → (getD (s ∷ r .after) (length (r .after)) 0 ≡ d) × (length (r .after) ≡ hopsOf (r .choice))
 
--- whatever it is given, its refusals end at 7
+-- whatever it is given, it refuses by 1 to 7
 unfoldable pub JourneyRefuses : Type 0
-JourneyRefuses = (R : Report) (vecs picks path : List ℕ) (s d m : ℕ) → outcome (journey R vecs picks path s d) ≡ refused m → m ≤ 7
+JourneyRefuses = (R : Report) (vecs picks path : List ℕ) (s d m : ℕ) → outcome (journey R vecs picks path s d) ≡ refused m → (1 ≤ m) × (m ≤ 7)

@@ -236,7 +236,7 @@ pub fn journey_arrives()
     ensures { λ r. ⌜ JourneyArrives ⌝ }
 {}
 
-// Journey's list of refusals ends at 7.
+// It refuses by 1 to 7.
 pub fn journey_refuses()
     ensures { λ r. ⌜ JourneyRefuses ⌝ }
 {}

@@ -1,4 +1,4 @@
--- Journey's list of refusals ends at 7.
+-- Journey refuses by 1 to 7.
 use Rattle.journey.specs.Promise.{JourneyRefuses}
 use Rattle.journey.proofs.Promise.{journey-refuses}
 use Rattle.journey.proofs.journey_refuses.Statement.{statement}
