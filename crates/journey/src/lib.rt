@@ -236,7 +236,7 @@ pub fn journey_arrives()
     ensures { λ r. ⌜ JourneyArrives ⌝ }
 {}
 
-// It refuses by 1 to 7.
+// Journey refuses by 1 to 7 and by nothing else.
 pub fn journey_refuses()
     ensures { λ r. ⌜ JourneyRefuses ⌝ }
 {}
