@@ -50,7 +50,7 @@ impl Cabinet {
         let answer = library.journey(self.n, &self.status, &self.links, &mut vectors, &picks, &mut path, s, d);
         let written = if answer.refusal == 0 { answer.hops as usize + 1 } else { 0 };
         assert!(path[written..].iter().all(|&word| word == 0xffff));
-        let filled = [0, 7, 8, 9].contains(&answer.refusal);
+        let filled = [0, 7].contains(&answer.refusal);
         assert_eq!(vectors, if filled { self.vectors(library) } else { vec![0xffff; 1 << self.n] });
         (answer, path[..written].to_vec())
     }

@@ -1,5 +1,5 @@
 -- Demand 3: the induction over walks, and what follows from it.
-use mathlib.Core.Path.{_≡_, refl, ap, _∙_, subst₂}
+use mathlib.Core.Path.{_≡_, refl, ap, sym, _∙_, subst₂}
 use mathlib.Core.Bool.{true, not, and-eq-true-iff}
 use mathlib.Core.Logic.{inl, inr, ⊎-elim}
 use mathlib.Core.List.{List, [], _∷_, _++_, append-assoc}
@@ -12,7 +12,7 @@ use lib.ListN.{length}
 use Rattle.cube.specs.Bits.{bit, flip, weight}
 use Rattle.cube.specs.Reply.{Reply, refused, accepted, unless}
 use Rattle.cube.proofs.Count.{xor-cancel}
-use Rattle.cube.proofs.Reply.{unless-accepted, unless-refused}
+use Rattle.cube.proofs.Reply.{unless-accepted, unless-none, unless-refused}
 use Rattle.report.specs.Health.{Cube}
 use Rattle.report.specs.Report.{Report, cube}
 use Rattle.report.proofs.Report.{dimension-range}
@@ -88,20 +88,18 @@ module _ (R : Report) where
           there = ap (C .works) (u .at .address) ∙ u .at .there;
         }))
 
-    -- over Fill's vectors Decide refuses by 1 to 7
-    pub refuses-to-7 : (m : ℕ) → decide R words s d ≡ refused m → (1 ≤ m) × (m ≤ 7)
+    -- over Fill's vectors Decide's rule refuses by 7 alone
+    pub refuses-by-7 : (m : ℕ) → decideRefusal R words s d ≡ 0 → decide R words s d ≡ refused m → m ≡ 7
     unfolding decide
-    refuses-to-7 m e = ⊎-elim test rule (unless-refused (decideRefusal R words s d) ruled m e)
-      where
-        test : (1 ≤ decideRefusal R words s d) × (decideRefusal R words s d ≡ m) → (1 ≤ m) × (m ≤ 7)
-        test (l, q) = (omega arith, omega (arith, decide-refusal-le R words s d))
+    refuses-by-7 m z e = rw (sym (unless-none (decideRefusal R words s d) ruled z) ∙ e) at (source-fair (start (decide-clear R words s d z)))
 
-        rule : (decideRefusal R words s d ≡ 0) × (ruled ≡ refused m) → (1 ≤ m) × (m ≤ 7)
-        rule (z, q) = let seven : m ≡ 7 = rw q at (source-fair (start (decide-clear R words s d z))) in (omega arith, omega arith)
-
-    -- so never by 8
+    -- so Decide never refuses by 8
     pub no-eight : decide R words s d ≡ refused 8 → ⊥
-    no-eight e = omega (arith, refuses-to-7 8 e .1)
+    unfolding decide
+    no-eight e =
+        ⊎-elim (λ (q : (1 ≤ decideRefusal R words s d) × (decideRefusal R words s d ≡ 8)). omega (arith, q .1, decide-refusal-le R words s d))
+        (λ (q : (decideRefusal R words s d ≡ 0) × (ruled ≡ refused 8)). let seven : _≡_ {A = ℕ} 8 7 = refuses-by-7 8 (q .0) e in omega arith)
+        (unless-refused (decideRefusal R words s d) ruled 8 e)
 
     module _ (c : Choice) where
       module _ (accepts : decide R words s d ≡ accepted c) where

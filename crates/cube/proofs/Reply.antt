@@ -53,13 +53,13 @@ unfolding unless
 unless-refused zero r k e = inr (refl, e)
 unless-refused (suc m) r k e = inl (omega arith, cc)
 
--- what an acceptance led to is accepted
+-- an acceptance comes of an acceptance
 pub if-accepted : {A B : Type 0} (go : A → B) (x : Reply A) (y : B) → ifAccepted go x ≡ accepted y → (z : A) × (x ≡ accepted z) × (go z ≡ y)
 unfolding ifAccepted
 if-accepted go (refused m) y e = absurd (let z : _≡_ {A = ℕ} 0 1 = cc in omega arith)
 if-accepted go (accepted z) y e = (z, refl, cc)
 
--- and a refusal was one before
+-- and a refusal of the same refusal
 pub if-refused : {A B : Type 0} (go : A → B) (x : Reply A) (m : ℕ) → ifAccepted go x ≡ refused m → x ≡ refused m
 unfolding ifAccepted
 if-refused go (refused k) m e = ap refused cc

@@ -95,7 +95,7 @@ module _ (R : Report) (picks : List ℕ) where
         let (u, e) = goes-on (m .node .0) d c [] m r 0 (rw ea (source accepts)) refl (omega arith) (omega arith) (λ mask q. f mask (told-on ∙ q)) in
         (rw ek u, rw ea at e)
 
-  -- what the hops after the first keep: after j of them all the message is on its walk, and the boards in the path and those ahead come to the same
+  -- what the loop over the hops after the first keeps: after j hops in all the message is on its walk, and the boards written and those ahead are the whole path
   abbrev pub Under : ℕ → List ℕ → Message → List ℕ → Message → ℕ → Type 0
   Under promised old first path m j =
       (j ≤ promised) × (length path ≡ length old) × (drop (promised + 1) path ≡ drop (promised + 1) old) × Walks R promised j m
@@ -126,7 +126,7 @@ module _ (R : Report) (picks : List ℕ) where
         rw same (sym (append-nil _) ∙ ap (λ (bs : List ℕ). take (j + 1) path ++ bs) (sym none) ∙ whole) in
         sym (take-append-drop (promised + 1) path) ∙ ap₂ (λ (xs ys : List ℕ). xs ++ ys) boards rest
 
--- short of it Hop offers something
+-- short of the hops promised Hop offers something
 pub hop-offers : (R : Report) (promised j : ℕ) (m : Message) → Walks R promised j m → j < promised → Offers (hop R (vectorsOf R) (m .node .0) (m .nav .0))
 unfolding answer
 hop-offers R promised j m (s, d, c, l, legs, v, ej, ep) h = let (mask, q, on) = offers R s d c v (omega arith) in (mask, q)

@@ -1,6 +1,6 @@
--- Journey's path is one of demand 3's walks: each board that it comes to lengthens the walk.
+-- Journey's path is one of demand 3's walks: each board that it comes to lengthens the walk. After filling it refuses by 7 alone.
 use mathlib.Core.Path.{_≡_, refl, ap, sym, _∙_, subst, subst₂}
-use mathlib.Core.Logic.{⊎-elim}
+use mathlib.Core.Logic.{_⊎_, inl, inr, ⊎-elim}
 use mathlib.Core.List.{List, [], _∷_, reverse, reverseAux, reverse-cons}
 use Prim.Native.Nat.{ℕ, _+_, _≤_, _<_}
 use native.Mathlib.Omega.{arith}
@@ -18,7 +18,7 @@ use Rattle.rules.specs.Rules.{Choice, hopsOf, onward}
 use Rattle.rules.specs.Decide.{decide}
 use Rattle.rules.proofs.Decided.{decide-hops}
 use Rattle.arrival.specs.Walk.{Leg, answer, Walk, source, go, boards}
-use Rattle.arrival.proofs.Walks.{length-boards, kept, offered-small, refuses-to-7}
+use Rattle.arrival.proofs.Walks.{length-boards, kept, offered-small, refuses-by-7}
 use Rattle.pick.specs.Pick.{taken}
 use Rattle.pick.proofs.Pick.{taken-in}
 use Rattle.journey.specs.Journey.{hops, Route, leave, route, journeyRefusal, journey, outcome}
@@ -104,15 +104,14 @@ module _ (R : Report) (vecs picks path : List ℕ) (s d : ℕ) where
     unfolding leave
     journey-arrives = let (c, a, h, on) = left in rw (sym on) (leave-arrives R s d c picks a h)
 
-  pub journey-refuses : (m : ℕ) → outcome (journey R vecs picks path s d) ≡ refused m → (1 ≤ m) × (m ≤ 7)
+  pub journey-refuses : (m : ℕ) → outcome (journey R vecs picks path s d) ≡ refused m
+      → ((journeyRefusal R vecs picks path s d ≡ m) × (1 ≤ m) × (m ≤ 6)) ⊎ ((journeyRefusal R vecs picks path s d ≡ 0) × (m ≡ 7))
   unfolding journey route outcome
-  journey-refuses m e = ⊎-elim before after (unless-refused number (route R picks s d) m (if-refused _ (journey R vecs picks path s d) m e))
+  journey-refuses m e =
+      ⊎-elim (λ (q : (1 ≤ number) × (number ≡ m)). inl (q .1, omega (arith, q), omega (arith, q, refusals-to-6 R vecs picks path s d)))
+      (λ (q : (number ≡ 0) × (route R picks s d ≡ refused m)).
+      inr (q .0, refuses-by-7 R s d m (clear-of-none R vecs picks path s d (q .0) .decides) (if-refused (leave R picks s d) (decide R (vectorsOf R) s d) m (q .1))))
+      (unless-refused number (route R picks s d) m (if-refused _ (journey R vecs picks path s d) m e))
     where
       number : ℕ
       number = journeyRefusal R vecs picks path s d
-
-      before : (1 ≤ number) × (number ≡ m) → (1 ≤ m) × (m ≤ 7)
-      before (l, q) = (omega arith, omega (arith, refusals-to-6 R vecs picks path s d))
-
-      after : (number ≡ 0) × (route R picks s d ≡ refused m) → (1 ≤ m) × (m ≤ 7)
-      after (z, q) = refuses-to-7 R s d m (if-refused (leave R picks s d) (decide R (vectorsOf R) s d) m q)

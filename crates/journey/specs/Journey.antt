@@ -33,12 +33,12 @@ pub record Route : Type 0 where
   pub choice : Choice
   pub after : List ℕ
 
--- the one from a source s that is accepted
+-- from a source s, accepted by c
 unfoldable pub leave : Report → (picks : List ℕ) → (s d : ℕ) → Choice → Route
 unfolding hops told
 leave R picks s d c = record { choice = c; after = hops R picks (accepted (told c)) s (bitXor s d) }
 
--- the one that Decide accepts over Fill's vectors, or its refusal
+-- by Decide's answer over Fill's vectors: from an accepted source, or Decide's refusal
 unfoldable pub route : Report → (picks : List ℕ) → (s d : ℕ) → Reply Route
 unfolding ifAccepted leave decide cube vectors
 route R picks s d = ifAccepted (leave R picks s d) (decide R (vectorsOf R) s d)

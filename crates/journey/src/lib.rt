@@ -85,7 +85,7 @@ fn onward(
     }
 }
 
-// The way from an accepted source to the end, written into the path; the first hop is by Decide's offer. Gives the hops.
+// The way from an accepted source to the end, written into the path; the first hop is by Decide's offer. Gives the hops promised, which are those made.
 fn depart(
     n: u32,
     status: &[u8],
@@ -236,7 +236,7 @@ pub fn journey_arrives()
     ensures { λ r. ⌜ JourneyArrives ⌝ }
 {}
 
-// Journey refuses by 1 to 7 and by nothing else.
+// Before it fills Journey refuses by 1 to 6, and after that by 7 alone.
 pub fn journey_refuses()
     ensures { λ r. ⌜ JourneyRefuses ⌝ }
 {}

@@ -50,7 +50,7 @@ decide-requires : tie.Need-decide-requires
 decide-requires c κs = search needs
 
 -- past the refusals
-clear : (c : tie.Else1) → let s = c .before .before .before .before .before .before .before .before .before in Clear (given s) (now (s .args .vectors)) (now (s .args .picks)) (now (s .args .path))
+clear : (c : tie.Else1) → let s = c .before .before .before .before .before .before .before .before .before in Clear (given s) (now (s .args .vectors)) (now (s .args .picks)) (now (s .args .path)) (s .args .s .0) (s .args .d .0)
 clear c =
     let s = c .before .before .before .before .before .before .before .before .before in
     clear-of-none (given s) (now (s .args .vectors)) (now (s .args .picks)) (now (s .args .path)) (s .args .s .0) (s .args .d .0) (sym (c .before .journey-refusal .ensures) ∙ c .if1 .left)

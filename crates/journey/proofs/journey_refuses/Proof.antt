@@ -1,4 +1,4 @@
--- Journey refuses by 1 to 7.
+-- Before it fills Journey refuses by 1 to 6, and after that by 7 alone.
 use Rattle.journey.specs.Promise.{JourneyRefuses}
 use Rattle.journey.proofs.Promise.{journey-refuses}
 use Rattle.journey.proofs.journey_refuses.Statement.{statement}
