@@ -32,7 +32,7 @@ list-ends x y xs ys e =
 
 module _ (R : Report) (s d : ℕ) (c : Choice) where
   -- the walk one hop on, along dimension i
-  abbrev pub Onward : List Leg → ℕ → ℕ → ℕ → Type 0
+  abbrev Onward : List Leg → ℕ → ℕ → ℕ → Type 0
   Onward legs a nav i = Walk R s d c (record { board = a; along = i } ∷ legs) (flip a i) (flip nav i)
 
   module _ {legs : List Leg} {a nav : ℕ} (w : Walk R s d c legs a nav) where

@@ -160,7 +160,7 @@ fn roomy(n: u32, picks: usize, path: usize) -> bool
     (hops <= picks) & (hops + 1 <= path)
 }
 
-// The number by which Journey refuses before filling, 0 for none.
+// The number by which Journey refuses before filling, 0 for none. From 4 on its tests are Decide's.
 fn journey_refusal(
     n: u32,
     status: &[u8],
@@ -175,10 +175,7 @@ fn journey_refusal(
         let R = report n (now (status .entry)) (now (links .entry)) in
         ⌜ r ≡ journeyRefusal R (now (vectors .entry)) (now (picks .entry)) (now (path .entry)) (s .0) (d .0) ⌝ }
 {
-    let by_6 = refused_unless(report::works(status, d), 6, 0);
-    let by_5 = refused_unless(report::works(status, s), 5, by_6);
-    let nodes = report::has_node(n, s) & report::has_node(n, d);
-    let by_4 = refused_unless(nodes, 4, by_5);
+    let by_4 = routing::decide_refusal(n, status, links, vectors, s, d);
     let by_3 = refused_unless(report::narrow(n, links), 3, by_4);
     let sized = report::all_sized(n, status.len(), links.len(), vectors.len());
     let roomy = roomy(n, picks.len(), path.len());

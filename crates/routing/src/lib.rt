@@ -134,7 +134,14 @@ fn at_source(n: u32, links: &[u16], vectors: &[u16], s: Node, nav: Nav) -> Decis
 }
 
 // The number by which Decide refuses before its rule, 0 for none.
-fn decide_refusal(n: u32, status: &[u8], links: &[u16], vectors: &[u16], s: Node, d: Node) -> u32
+pub fn decide_refusal(
+    n: u32,
+    status: &[u8],
+    links: &[u16],
+    vectors: &[u16],
+    s: Node,
+    d: Node,
+) -> u32
     ensures { λ r.
         let R = report n (now (status .entry)) (now (links .entry)) in
         ⌜ r ≡ decideRefusal R (now (vectors .entry)) (s .0) (d .0) ⌝ }
