@@ -1,4 +1,6 @@
 // Demand 3: every accepted message arrives.
+#![tactic(auto)]
+
 ghost use Rattle.arrival.specs.Promise.{Promise, Completes, NoEight, NoRefusal, NeverLong};
 ghost use Rattle.arrival.specs.Examples.{Examples};
 

@@ -1,4 +1,6 @@
 // The lettered cases of document 01.
+#![tactic(auto)]
+
 ghost use Rattle.cases.specs.Lettered.{Holds};
 
 // All lettered cases hold of the definitions.

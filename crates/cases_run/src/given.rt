@@ -13,7 +13,7 @@ struct List {
 }
 
 // A number and the place after it.
-#[derive(Drop)]
+#[derive(Clone, Copy)]
 struct Found {
     value: usize,
     end: usize,

@@ -20,6 +20,8 @@
 //     l 0          the listing, | for a line's end: b record
 //
 // Lent memory is printed with the place behind it, which is 99; `unchanged` if all is 99.
+#![tactic(auto)]
+
 mod given;
 mod jobs;
 mod say;

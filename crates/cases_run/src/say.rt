@@ -2,9 +2,9 @@
 use bytes::scan;
 use journey::Trip;
 use libc::STDOUT_FILENO;
-use status_log::Refreshed;
 use record::Opened;
 use routing::{Decision, Kind, Offer, Step};
+use status_log::Refreshed;
 use vectors::Filled;
 
 // What lent memory holds before a job.

@@ -1,14 +1,16 @@
 // Nodes and relative addresses of a cube, kept apart. Exclusive or is the only bridge between them.
+#![tactic(auto)]
+
 ghost use Rattle.std.specs.Prelude.{◌≡◌, not, cond, eqb};
 ghost use Rattle.std.specs.Int.Bits.{bit_xor};
 ghost use Rattle.cube.specs.Bits.{crossed, weight};
 
 // An absolute node number.
-#[derive(Drop)]
+#[derive(Clone, Copy)]
 pub struct Node(pub u16);
 
 // A relative address, Wu's navigation vector.
-#[derive(Drop)]
+#[derive(Clone, Copy)]
 pub struct Nav(pub u16);
 
 // A number with dimension i crossed; outside 1 to 10 the same number.

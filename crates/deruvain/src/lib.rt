@@ -1,4 +1,6 @@
 // The C interface: every job on numbers and slices alone.
+#![tactic(auto)]
+
 ghost use Rattle.std.specs.Prelude.{◌≡◌};
 ghost use Rattle.cube.specs.Reply.{number_of};
 ghost use Rattle.report.specs.Class.{class_of};
@@ -23,7 +25,7 @@ use routing::{Decision, Kind, Step};
 
 // A job's answer: the refusal's number, 0 for an acceptance, and the acceptance's numbers, 0 after a refusal.
 #[repr(C)]
-#[derive(Drop)]
+#[derive(Clone, Copy)]
 pub struct Answer {
     pub refusal: u32,
     pub kind: u32,
@@ -33,7 +35,7 @@ pub struct Answer {
 
 // Open's answer: the refusal's number, 0 for none, and n, 0 after a refusal.
 #[repr(C)]
-#[derive(Drop)]
+#[derive(Clone, Copy)]
 pub struct Opened {
     pub refusal: u32,
     pub n: u32,
@@ -41,7 +43,7 @@ pub struct Opened {
 
 // The answer of Refresh and Update: the refusal's number, 0 for none, and how many records from the future were skipped, 0 after a refusal.
 #[repr(C)]
-#[derive(Drop)]
+#[derive(Clone, Copy)]
 pub struct Refreshed {
     pub refusal: u32,
     pub skipped: usize,

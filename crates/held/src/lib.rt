@@ -1,4 +1,6 @@
 // What the boards hold: the bits read off lent vectors, which may be wrong, and the links that count as faulty.
+#![tactic(auto)]
+
 ghost use Rattle.std.specs.Prelude.{◌≡◌, suc, ◌%◌, ◌^◌, ◌≤◌, ◌<◌, ◌&&◌, cond, eqb, leb, length};
 ghost use Rattle.cube.specs.Bits.{bit, flip};
 ghost use Rattle.cube.specs.Count.{one, pack};

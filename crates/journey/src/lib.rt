@@ -1,4 +1,6 @@
 // The whole journey: fill, decide, and hop to the end.
+#![tactic(auto)]
+
 ghost use Rattle.std.specs.Prelude.{◌≡◌, ◌&&◌, ◌++◌, ℕ, ◌+◌, ◌≤◌, ◌<◌, leb, length, take, drop};
 ghost use Rattle.cube.specs.Reply.{accepted, OneAnswer};
 ghost use Rattle.report.specs.Report.{report};
@@ -19,14 +21,14 @@ use routing::{Decision, Kind, Step};
 use vectors::Filled;
 
 // What Journey answers: the source's kind and the hops made.
-#[derive(Drop)]
+#[derive(Clone, Copy)]
 pub enum Trip {
     Arrived(Kind, u32),
     Refused(u32),
 }
 
 // A message under way: where it is, and its relative address.
-#[derive(Drop)]
+#[derive(Clone, Copy)]
 struct Message {
     node: Node,
     nav: Nav,

@@ -1,4 +1,6 @@
 // Words, decimal numbers and lines, put into a lent buffer as far as it goes.
+#![tactic(auto)]
+
 ghost use Rattle.std.specs.Prelude.{[], ◌∷◌};
 ghost use Rattle.lines.specs.Text.{decimal, valued, titled};
 ghost use Rattle.lines.specs.Put.{Put};

@@ -1,4 +1,6 @@
 // Lists the record on standard input.
+#![tactic(auto)]
+
 use libc::{STDIN_FILENO, STDOUT_FILENO};
 use record::Opened;
 

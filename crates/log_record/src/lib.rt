@@ -1,4 +1,6 @@
 // One record of the status log: its refusal, its age, and the status byte that it speaks for.
+#![tactic(auto)]
+
 ghost use Rattle.std.specs.Prelude.{◌≡◌, leb, [], ◌∷◌, if◌then◌else◌, nat_le};
 ghost use Rattle.cube.specs.Count.{one};
 ghost use Rattle.cube.specs.Reply.{refusal};

@@ -1,4 +1,6 @@
 // What a status log means, and what is claimed of it; the jobs over it are Refresh and Update of `status_log`.
+#![tactic(auto)]
+
 ghost use Rattle.log_rules.specs.Claims.{AnyOrder, UnheardIsLost, InParts, FromSilence};
 
 // A board unheard is a board lost.

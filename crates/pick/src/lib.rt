@@ -1,4 +1,6 @@
 // The pick: which of the dimensions offered a message takes.
+#![tactic(auto)]
+
 ghost use Rattle.std.specs.Prelude.{◌≡◌, min, ◌≤◌};
 ghost use Rattle.cube.specs.Bits.{bit};
 ghost use Rattle.cube.specs.Count.{ranked};

@@ -1,4 +1,6 @@
 // What programs over records share: reading all of an input, and saying on standard error what is wrong.
+#![tactic(auto)]
+
 ghost use Rattle.std.specs.Prelude.{◌≡◌, ◌^◌, ◌≤◌, min, length};
 ghost use Rattle.io.specs.Counts.{IsPrefixLen};
 
@@ -7,7 +9,7 @@ use libc::STDERR_FILENO;
 use record::word_at;
 
 // What came of an input: how many bytes, and whether reading failed.
-#[derive(Drop)]
+#[derive(Clone, Copy)]
 pub struct Input {
     pub count: usize,
     pub failed: bool,

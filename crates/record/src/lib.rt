@@ -1,4 +1,6 @@
 // One report record: bytes on the wire.
+#![tactic(auto)]
+
 ghost use Rattle.std.specs.Prelude.{◌≡◌, ◌++◌, ◌+◌, ◌*◌, ◌%◌, ◌^◌, ◌<◌, ◌≤◌, length, drop};
 ghost use Rattle.cube.specs.Reply.{OneAnswer};
 ghost use Rattle.report.specs.Report.{narrow};
@@ -8,7 +10,7 @@ ghost use Rattle.record.specs.Restate.{restated, ReadsBack};
 use cube::refused_unless;
 
 // What Open answers.
-#[derive(Drop)]
+#[derive(Clone, Copy)]
 pub enum Opened {
     Cube(u32),
     Refused(u32),

@@ -1,14 +1,16 @@
 // Puts today's status bytes, made from the controller's log, into the record on standard input.
+#![tactic(auto)]
+
 ghost use Rattle.std.specs.Prelude.{◌≤◌, length};
 
 use libc::{STDIN_FILENO, STDOUT_FILENO};
-use status_log::{Refreshed, Sweep};
 use program::{read_all, say, say_with};
 use record::{Opened, word_at};
 use report::Class;
+use status_log::{Refreshed, Sweep};
 
 // How the reading of a log stands: the records read, those of them skipped, whether there is more to read, and whether all was read.
-#[derive(Drop)]
+#[derive(Clone, Copy)]
 struct Reading {
     records: usize,
     skipped: usize,
@@ -17,7 +19,7 @@ struct Reading {
 }
 
 // How many boards are silent, working and late. No log says that a board is down or that a slot is empty.
-#[derive(Drop)]
+#[derive(Clone, Copy)]
 struct Tally {
     silent: usize,
     working: usize,

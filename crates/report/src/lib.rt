@@ -1,4 +1,6 @@
 // What a cabinet report means: the class of a status byte, which boards work, which links count as faulty.
+#![tactic(auto)]
+
 ghost use Rattle.std.specs.Prelude.{◌≡◌, min, ◌^◌, ◌&&◌, eqb};
 ghost use Rattle.report.specs.Class.{class_of, is_working};
 ghost use Rattle.cube.specs.Count.{pack};
@@ -7,7 +9,7 @@ ghost use Rattle.report.specs.Report.{works, joint, SeenFromBothEnds, narrow, di
 use cube::{Nav, Node};
 
 // The class of a board by its status byte.
-#[derive(Drop)]
+#[derive(Clone, Copy)]
 pub enum Class {
     Silent,
     Working,

@@ -1,4 +1,6 @@
 // Wu's two routing rules: the decision at the source, and the hop at a later node.
+#![tactic(auto)]
+
 ghost use Rattle.std.specs.Prelude.{◌≡◌, true, false, length, ℕ, ◌^◌, ◌≤◌, ◌<◌};
 ghost use Rattle.cube.specs.Bits.{weight};
 ghost use Rattle.cube.specs.Reply.{number_of, OneAnswer};
@@ -14,14 +16,14 @@ ghost use Rattle.routing.specs.Hop as hopping;
 use cube::{Nav, Node, refused_unless};
 
 // The dimensions offered, dimension i at weight 2^(i−1), and the hops to the destination.
-#[derive(Drop)]
+#[derive(Clone, Copy)]
 pub struct Offer {
     pub mask: u16,
     pub hops: u32,
 }
 
 // How a source is accepted.
-#[derive(Drop)]
+#[derive(Clone, Copy)]
 pub enum Kind {
     Home,
     Assured(Offer),
@@ -30,14 +32,14 @@ pub enum Kind {
 }
 
 // What Decide answers.
-#[derive(Drop)]
+#[derive(Clone, Copy)]
 pub enum Decision {
     Accepted(Kind),
     Refused(u32),
 }
 
 // What Hop answers.
-#[derive(Drop)]
+#[derive(Clone, Copy)]
 pub enum Step {
     Arrived,
     Offered(u16),

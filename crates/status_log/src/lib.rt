@@ -1,4 +1,6 @@
 // The controller's status log: status bytes made from its records.
+#![tactic(auto)]
+
 ghost use Rattle.std.specs.Prelude.{◌≡◌, true, cond, ◌<◌, leb, length, get_or, set, replicate};
 ghost use Rattle.cube.specs.Reply.{OneAnswer, refusal};
 ghost use Rattle.log_rules.specs.Log.{records, node_in, skipped, age_byte};
@@ -11,14 +13,14 @@ use cube::refused_unless;
 use record::word_at;
 
 // What Refresh answers: how many records from the future were skipped, or the refusal's number.
-#[derive(Drop)]
+#[derive(Clone, Copy)]
 pub enum Refreshed {
     Done(usize),
     Refused(u32),
 }
 
 // A sweep number as a person types it.
-#[derive(Drop)]
+#[derive(Clone, Copy)]
 pub enum Sweep {
     Number(u16),
     NoNumber,

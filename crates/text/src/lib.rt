@@ -1,4 +1,6 @@
 // The listing of a record, as text in a lent buffer.
+#![tactic(auto)]
+
 ghost use Rattle.std.specs.Prelude.{◌≡◌, ◌++◌, ◌^◌, ◌≤◌, length, take, drop, replicate};
 ghost use Rattle.cube.specs.Reply.{accepted};
 ghost use Rattle.report.specs.Report.{report, cube};
@@ -26,7 +28,7 @@ pub fn buffer() -> [u8; LONGEST]
 }
 
 // The name of a class between two spaces, with its size.
-#[derive(Drop)]
+#[derive(Clone, Copy)]
 struct Name {
     bytes: [u8; 9],
     size: usize,

@@ -1,4 +1,6 @@
 // Wu's safety vectors: Fill.
+#![tactic(auto)]
+
 ghost use Rattle.std.specs.Prelude.{◌≡◌, suc, ◌+◌, ◌^◌, ◌≤◌, ◌<◌, ◌&&◌, length, replicate};
 ghost use Rattle.cube.specs.Bits.{flip};
 ghost use Rattle.cube.specs.Count.{one, count};
@@ -12,7 +14,7 @@ ghost use Rattle.vectors.specs.Fill.{fill_refusal, fill, filled, said};
 use cube::{Node, refused_unless};
 
 // What Fill answers.
-#[derive(Drop)]
+#[derive(Clone, Copy)]
 pub enum Filled {
     Done,
     Refused(u32),
