@@ -1,0 +1,10 @@
+-- `record::narrow_links` meets its contract. The invariant: every word passed is below the number of nodes.
+use Prim.Native.Nat.{ℕ, ◌+◌, ◌-◌, ◌*◌, ◌≤◌, ◌<◌}
+use Rattle.record.specs.Open.{word}
+use Rattle.record.proofs.narrow_links.Given as goal
+
+abbrev pub invariant-loop-a : goal.invariant-loop-a
+invariant-loop-a l = (l.a ≤ l.nodes) × ((k : ℕ) → k < l.a → word l.bytes (5 + l.nodes + 2 * k) < l.nodes)
+
+abbrev pub decreases-loop-a : goal.decreases-loop-a
+decreases-loop-a l = l.nodes - l.a

@@ -1,0 +1,39 @@
+-- `routing::at_node` meets its contract: Wu's rule at a later node.
+use mathlib.Core.Path.{ap, sym, ◌∙◌}
+use Prim.Native.Nat.{◌<◌}
+use native.Mathlib.Omega.{arith}
+use Rattle.cube.specs.Bits.{weight}
+use Rattle.cube.proofs.Count.{weight_le, weight_none, weight_some}
+use Rattle.report.specs.Report.{cut}
+use Rattle.held.specs.Held.{own}
+use Rattle.rules.specs.Rules.{proceed, at_node}
+use Rattle.rules.proofs.Rules.{node_away}
+use Rattle.routing.proofs.at_node.Goals as goal
+use Rattle.routing.proofs.at_node.Goals.{Else-arrived}
+
+-- short of the destination the distance is not 0
+away : (c : Else-arrived) → 0 < weight c.args.nav.0
+away c =
+    weight_some c.args.n c.args.nav.0 c.requires.4 (sym c.arrived.ensures ∙ c.if-arrived.false)
+
+pub returns-then-arrived : goal.returns-then-arrived
+unfolding at_node
+returns-then-arrived c = rw (weight_none _ (sym c.arrived.ensures ∙ c.if-arrived.true))
+
+pub overflow_sub-away : goal.overflow_sub-away
+overflow_sub-away c = omega (arith, c.weight-away.ensures, away (goal.at.overflow_sub-away c).Else-arrived)
+
+pub mask-requires : goal.mask-requires
+mask-requires c =
+    let p = c.requires in
+    (p.0, p.1, p.2, p.3, omega (arith, c.weight-away.ensures, weight_le c.args.n c.args.nav.0 p.4, p.0))
+
+pub returns : goal.returns
+returns c =
+    let a = c.args in
+    let links = cut a.links.now in
+    let bits = own a.vectors.now in
+    c.proceed.ensures
+    ∙ ap proceed c.mask.ensures
+    ∙ sym (node_away a.n links bits a.a.0 a.nav.0 c.weight-away.result (λ z. omega (arith, c.weight-away.ensures, away (goal.at.returns c).Else-arrived)))
+    ∙ ap (at_node a.n links bits a.a.0 a.nav.0) c.weight-away.ensures
