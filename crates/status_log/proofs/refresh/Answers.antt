@@ -27,4 +27,4 @@ returns c =
     let a = c.args in
     let e = c.log_refusal-number.ensures in
     let none : c.log_refusal-number.result ≡ 0 = omega arith in
-    let told = c.put_all-count.ensures in record { result_value = answer_done a.n a.sweep a.log.now a.status.now _ e _ none told.0; status_after = refresh_done a.n a.sweep a.log.now a.status.now _ e _ none (told.1 ∙ ap (updated a.sweep a.log.now) c.clear.ensures) }
+    let told = c.put_all-count.ensures in record { result_value = answer_done a.n a.sweep a.log.now a.status.now _ e _ none told.value; status_after = refresh_done a.n a.sweep a.log.now a.status.now _ e _ none (told.status_after ∙ ap (updated a.sweep a.log.now) c.clear.ensures) }

@@ -17,4 +17,4 @@ returns c =
     let a = c.args in
     let e = c.log_refusal-refused.ensures in
     let none = c.if-refused-ne0.false in
-    let told = c.put_all-skipped.ensures in record { result_value = answer_done a.n a.sweep a.part.now a.status.now _ e _ none told.0; status_after = update_done a.n a.sweep a.part.now a.status.now _ e _ none told.1 }
+    let told = c.put_all-skipped.ensures in record { result_value = answer_done a.n a.sweep a.part.now a.status.now _ e _ none told.value; status_after = update_done a.n a.sweep a.part.now a.status.now _ e _ none told.status_after }
