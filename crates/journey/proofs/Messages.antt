@@ -1,6 +1,5 @@
 -- The laws of a message under way as the code carries it, and of the path that it leaves.
 use mathlib.Core.Path.{◌≡◌, refl, ap, ap₂, sym, ◌∙◌}
-use mathlib.Core.Logic.{inl, inr}
 use mathlib.Core.List.{List, [], ◌∷◌, ◌++◌, append-nil, append_assoc}
 use Prim.Native.Nat.{ℕ, ◌+◌, ◌≤◌, ◌<◌}
 use native.Mathlib.Numerals.{add-one}
@@ -8,14 +7,11 @@ use native.Mathlib.Omega.{arith}
 use lib.Bits.{bit_xor}
 use lib.ListN.{length, get_or, take, drop, set, length-set, take-append-drop}
 use lib.Seq.{take-suc-set, drop-set-lt, drop-cons}
-use types.Run.{OneOf}
-use denote.Enum.Declared.{tag_of}
 use Rattle.cube.specs.Bits.{flip}
 use Rattle.cube.specs.Reply.{Reply, accepted}
 use Rattle.cube.proofs.Reply.{refused_accepted}
 use Rattle.report.specs.Report.{Report}
 use Rattle.safety.specs.Safety.{vectors_of}
-use Rattle.routing.specs.contracts.Step.{the_type}
 use Rattle.routing.specs.declared.Step.{Step}
 use Rattle.routing.specs.declared.Step.TheVariants.{Arrived, Offered, Refused}
 use Rattle.routing.specs.Hop.{said}
@@ -31,11 +27,10 @@ use Rattle.journey.specs.Message.{Offers, Crossed, Walks, ahead}
 use Rattle.journey.proofs.Promise.{hops_end, offers}
 
 -- an answer that is another case than an offer offers nothing
-pub no_offer : (x : Step) → OneOf (0 ∷ 2 ∷ []) (tag_of the_type x) → Offers (said x) → ⊥
-no_offer Arrived t (mask, e) = let z : ◌≡◌ {A = ℕ} 0 1 = cc in omega arith
-no_offer (Offered mask) (inl z) o = omega arith
-no_offer (Offered mask) (inr z) o = omega arith
-no_offer (Refused m) t (mask, e) = refused_accepted m _ e
+pub no_offer : (x : Step) → ((mask : ℕ) → x ≡ Offered mask → ⊥) → Offers (said x) → ⊥
+no_offer Arrived other (mask, e) = let z : ◌≡◌ {A = ℕ} 0 1 = cc in omega arith
+no_offer (Offered mask) other o = other mask refl
+no_offer (Refused m) other (mask, e) = refused_accepted m _ e
 
 -- two offers that are the same have the same mask
 pub same_offer : {m k : ℕ} → accepted (onward m) ≡ accepted (onward k) → m ≡ k

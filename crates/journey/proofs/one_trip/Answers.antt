@@ -8,8 +8,7 @@ use Rattle.routing.specs.declared.Kind.TheVariants.{Home, Assured, Lent, Detour}
 use Rattle.journey.specs.Journey.{said}
 use Rattle.journey.specs.declared.Trip.{Trip}
 use Rattle.journey.specs.declared.Trip.TheVariants.{Arrived, Refused}
-use Rattle.journey.proofs.one_trip.Statement.{statement}
-use Rattle.journey.proofs.one_trip.Tie as tie
+use Rattle.journey.proofs.one_trip.Goals as goal
 
 abbrev back : Reply (Choice × ℕ) → Trip
 back (accepted (home, made)) = Arrived Home made
@@ -25,8 +24,5 @@ back_said (Arrived (Lent o) made) = refl
 back_said (Arrived (Detour o) made) = refl
 back_said (Refused m) = refl
 
-returns : tie.Need-returns
+pub returns : goal.returns
 returns c = one_answer said back back_said
-
-pub one-trip-spec : {M : Type 1} → statement M
-one-trip-spec = tie.close (tie.spec returns)

@@ -1,0 +1,73 @@
+-- `journey::depart` meets its contract: the first hop by the source's mask, and the rest by Hop's.
+use mathlib.Core.Path.{◌≡◌, refl, sym, ◌∙◌}
+use mathlib.Core.List.{List, ◌∷◌}
+use Prim.Native.Nat.{ℕ, ◌+◌, ◌≤◌}
+use native.Mathlib.Omega.{arith}
+use lib.ListN.{length, set, length-set}
+use Rattle.report.specs.Report.{Report, report}
+use Rattle.rules.proofs.Decided.{decide_hops}
+use Rattle.routing.specs.Decide.{chosen}
+use Rattle.journey.specs.Journey.{leave, path_by}
+use Rattle.journey.specs.Message.{Walks, ahead}
+use Rattle.journey.specs.declared.Message.{Message}
+use Rattle.journey.proofs.Promise.{leave_arrives}
+use Rattle.journey.proofs.Messages.{path_home, path_whole, sets_out}
+use Rattle.journey.proofs.depart.Goals as goal
+use Rattle.journey.proofs.depart.Goals.{After-follow-first, After-offer-offer, Start}
+
+-- the report that the call is given
+abbrev given : Start → Report
+given c = report c.args.n c.args.status.now c.args.links.now
+
+-- the boards after the source
+abbrev after : Start → List ℕ
+after c = (leave (given c) c.args.picks.now c.args.s.0 c.args.d.0 (chosen c.args.kind)).after
+
+-- n + 1 hops are promised at most, and as many are made as are promised
+few : (c : After-offer-offer) → (c.offer-offer.result.hops ≤ c.args.n + 1) × (c.offer-offer.result.hops ≡ length ((leave (report c.args.n c.args.status.now c.args.links.now) c.args.picks.now c.args.s.0 c.args.d.0 (chosen c.args.kind)).after))
+few c =
+    let h = decide_hops _ _ _ _ _ c.requires.4 in
+    let e = c.offer-offer.ensures.1 in
+    (omega (arith, e, h), e ∙ sym (leave_arrives (report c.args.n c.args.status.now c.args.links.now) _ _ _ c.args.picks.now c.requires.4 (omega (arith, h, c.requires.1))).1)
+
+pub follow-first-requires : goal.follow-first-requires
+follow-first-requires c = (c.requires.0, (_, refl))
+
+-- the message after its first hop
+first : (c : After-follow-first) → Walks (report c.args.n c.args.status.now c.args.links.now) c.offer-offer.result.hops 1 c.follow-first.result
+    × (((leave (report c.args.n c.args.status.now c.args.links.now) c.args.picks.now c.args.s.0 c.args.d.0 (chosen c.args.kind)).after) ≡ c.follow-first.result.node.0 ∷ ahead (report c.args.n c.args.status.now c.args.links.now) c.args.picks.now 1 c.follow-first.result)
+first c =
+    let m : Message = record { node = c.args.s; nav = c.to.result } in
+    sets_out (report c.args.n c.args.status.now c.args.links.now) c.args.picks.now m c.args.d.0 _ c.requires.4 c.follow-first.result _ _ c.to.ensures c.offer-offer.ensures
+    (omega (arith, c.if-offer-ne0.true)) (omega (arith, decide_hops _ _ _ _ _ c.requires.4, c.offer-offer.ensures.1, c.requires.1)) c.follow-first.ensures
+
+pub bounds-path-1 : goal.bounds-path-1
+bounds-path-1 c =
+    omega (arith, length-set c.args.path.now 0 c.args.s.0, c.requires.2)
+
+-- the path with its first two boards is as long as before
+long : (path : List ℕ) (s b : ℕ) → length (set (set path 0 s) 1 b) ≡ length path
+long path s b = length-set (set path 0 s) 1 b ∙ length-set path 0 s
+
+pub onward-requires : goal.onward-requires
+onward-requires c =
+    let low = (few (goal.at.onward-requires c).After-offer-offer).0 in (
+      c.requires.0,
+      omega (arith, c.if-offer-ne0.true),
+      omega (arith, low, c.requires.1),
+      omega (arith, low, c.requires.2, long c.args.path.now c.args.s.0 c.follow-first.result.node.0),
+      c.requires.3,
+      (first (goal.at.onward-requires c).After-follow-first).0,
+    )
+
+pub returns-then-offer-ne0 : goal.returns-then-offer-ne0
+unfolding path_by
+returns-then-offer-ne0 c =
+    let hops = (few (goal.at.returns-then-offer-ne0 c).After-offer-offer).1 in
+    (hops, c.onward.ensures ∙ path_whole c.args.path.now c.args.s.0 _ _ (after (goal.at.returns-then-offer-ne0 c).Start) _ (omega (arith, c.requires.2)) hops (first (goal.at.returns-then-offer-ne0 c).After-follow-first).1)
+
+pub returns-else-offer-ne0 : goal.returns-else-offer-ne0
+unfolding path_by
+returns-else-offer-ne0 c =
+    let hops = (few (goal.at.returns-else-offer-ne0 c).After-offer-offer).1 in
+    (hops, path_home c.args.path.now c.args.s.0 (after (goal.at.returns-else-offer-ne0 c).Start) (omega (arith, c.requires.2)) (sym hops ∙ c.if-offer-ne0.false))
