@@ -3,12 +3,10 @@ use mathlib.Core.Path.{◌≡◌, sym}
 use mathlib.Core.List.{List}
 use Prim.Native.Nat.{ℕ, ◌+◌, ◌≤◌, ◌<◌}
 use native.Mathlib.Omega.{arith}
-use borrow.Author.Rules.{rules}
 use borrow.Author.Tests.{le-leb, lt-leb}
 use lib.ListN.{length}
 use Rattle.deruvain.specs.Numbers.{room_number}
-use Rattle.deruvain.proofs.room_number.Statement.{statement}
-use Rattle.deruvain.proofs.room_number.Tie as tie
+use Rattle.deruvain.proofs.room_number.Goals as goal
 
 roomy : (bytes status : List ℕ) → 5 + length status ≤ length bytes → room_number bytes status ≡ 0
 unfolding room_number
@@ -18,17 +16,11 @@ tight : (bytes status : List ℕ) → length bytes < 5 + length status → room_
 unfolding room_number
 tight bytes status h = rw (lt-leb (5 + length status) (length bytes) h)
 
-returns : tie.Need-returns
-returns c = sym (tight c.before.args.bytes.now c.before.args.status.now (omega arith))
+pub returns-then-bytes-lt5 : goal.returns-then-bytes-lt5
+returns-then-bytes-lt5 c = sym (tight c.args.bytes.now c.args.status.now (omega arith))
 
-sub-if2 : tie.Need-overflow-sub-if2
-sub-if2 c = search rules
+pub returns-then-bytes-status : goal.returns-then-bytes-status
+returns-then-bytes-status c = sym (tight c.args.bytes.now c.args.status.now (omega arith))
 
-returns-2 : tie.Need-returns-2
-returns-2 c = sym (tight c.before.before.args.bytes.now c.before.before.args.status.now (omega arith))
-
-returns-3 : tie.Need-returns-3
-returns-3 c = sym (roomy c.before.before.args.bytes.now c.before.before.args.status.now (omega arith))
-
-pub room-number-spec : {M : Type 1} → statement M
-room-number-spec = tie.close (tie.spec returns sub-if2 returns-2 returns-3)
+pub returns : goal.returns
+returns c = sym (roomy c.args.bytes.now c.args.status.now (omega arith))

@@ -7,8 +7,7 @@ use Rattle.deruvain.specs.declared.Answer.{Answer}
 use Rattle.deruvain.specs.declared.Opened.{Opened}
 use Rattle.deruvain.specs.declared.Refreshed.{Refreshed}
 use Rattle.deruvain.specs.Numbers.{Says, Decided, Hopped, Travelled, Read, Skipped, Fixed}
-use Rattle.deruvain.proofs.one_answer.Statement.{statement}
-use Rattle.deruvain.proofs.one_answer.Tie as tie
+use Rattle.deruvain.proofs.one_answer.Goals as goal
 
 -- four numbers fix an answer
 same : (r₁ r₂ : Answer) {number k m h : ℕ} → Says r₁ number k m h → Says r₂ number k m h → r₁ ≡ r₂
@@ -60,8 +59,5 @@ unfolding Fixed
 skipped r₁ r₂ (refused m) a b = same_refreshed r₁ r₂ a b
 skipped r₁ r₂ (accepted k) a b = same_refreshed r₁ r₂ a b
 
-returns : tie.Need-returns
+pub returns : goal.returns
 returns c = (decided, (hopped, (travelled, (read, skipped))))
-
-pub one-answer-spec : {M : Type 1} → statement M
-one-answer-spec = tie.close (tie.spec returns)

@@ -1,0 +1,9 @@
+-- `deruvain::deruvain_open` meets its contract.
+use mathlib.Core.Path.{subst}
+use Rattle.deruvain.specs.Numbers.{Read}
+use Rattle.deruvain.proofs.deruvain_open.Goals as goal
+
+pub returns : goal.returns
+returns c =
+    let e = c.open.ensures in
+    (subst (Read c.of_opened.result) e.0 c.of_opened.ensures, e.1)

@@ -1,0 +1,5 @@
+-- `text::put_class` meets its contract: the name that is found is put.
+use Rattle.text.proofs.put_class.Goals as goal
+
+pub returns : goal.returns
+returns c = rw (← c.name_of-name.ensures.bytes_value) c.put.ensures
