@@ -60,4 +60,4 @@ skipped r₁ r₂ (refused m) a b = same_refreshed r₁ r₂ a b
 skipped r₁ r₂ (accepted k) a b = same_refreshed r₁ r₂ a b
 
 pub returns : goal.returns
-returns c = (decided, (hopped, (travelled, (read, skipped))))
+returns c = record { decide = decided; hop = hopped; journey = travelled; opened = read; refresh = skipped }

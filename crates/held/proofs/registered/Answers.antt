@@ -18,6 +18,9 @@ overflow_mul-result c = record { fits = lt_of_le_of_lt (unless_le _ _ c.bit_of.e
 pub returns : goal.returns
 unfolding own
 returns c =
-    let a = c.args in record { digit = registered_digit (cut a.links.now) (own a.vectors.now a.k) a.a (suc a.i) _ _
+    let a = c.args in record {
+      digit = registered_digit (cut a.links.now) (own a.vectors.now a.k) a.a (suc a.i) _ _
           c.faulty.ensures.digit
-          (held_mod _ a.k _ (omega (arith, c.requires.1)) c.bit_of.ensures.digit ∙ ap (λ (x : ℕ). one (held (get_or a.vectors.now x 0) a.k)) c.across-b.ensures); small = unless_le _ _ c.bit_of.ensures.small }
+          (held_mod _ a.k _ (omega (arith, c.requires.1)) c.bit_of.ensures.digit ∙ ap (λ (x : ℕ). one (held (get_or a.vectors.now x 0) a.k)) c.across-b.ensures);
+      small = unless_le _ _ c.bit_of.ensures.small;
+    }
