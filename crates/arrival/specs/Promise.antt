@@ -1,5 +1,5 @@
 -- Demand 3: what holds of every partial walk, for every report, pair and choice.
-use Rattle.std.specs.Prelude.{ℕ, ◌+◌, ◌≤◌, ◌≡◌, true, ◌↔◌, List, [], ◌∷◌, ◌++◌, length}
+use Rattle.std.specs.Prelude.{ℕ, ◌+◌, ◌≤◌, ◌≡◌, true, ◌↔◌, List, ◌∷◌, ◌++◌, length}
 use Rattle.std.specs.Int.Bits.{bit_xor}
 use Rattle.cube.specs.Bits.{bit, weight}
 use Rattle.cube.specs.Reply.{refused, accepted}

@@ -1,5 +1,4 @@
 -- `text::listing` meets its contract: too long an input is refused, and else Open's answer is listed.
-use borrow.Author.Rules.{rules}
 use borrow.Author.Tests.{lt-ltb, le-ltb}
 use native.Mathlib.Omega.{arith}
 use lib.ListN.{length}

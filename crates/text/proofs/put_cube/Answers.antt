@@ -1,5 +1,4 @@
 -- `text::put_cube` meets its contract: the lines are over the vectors of the report.
-use borrow.Author.Rules.{rules}
 use native.Mathlib.Omega.{arith}
 use lib.Pow.{pow_mono}
 use Rattle.lines.proofs.Placing.{put_then}

@@ -1,5 +1,4 @@
 -- `text::put_opened` meets its contract: each arm is one case of the answer.
-use borrow.Author.Rules.{rules}
 use Rattle.text.specs.Listing.{listed}
 use Rattle.text.proofs.put_opened.Goals as goal
 

@@ -2,7 +2,6 @@
 use mathlib.Core.Path.{ap, sym, ◌∙◌}
 use Prim.Native.Nat.{suc}
 use native.Mathlib.Omega.{arith}
-use native.Mathlib.Nat.{lt_of_le_of_lt}
 use Rattle.cube.specs.Count.{one}
 use Rattle.cube.proofs.Bits.{flip_next}
 use Rattle.vectors.specs.Rounds.{shown}
