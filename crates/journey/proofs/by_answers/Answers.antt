@@ -36,7 +36,8 @@ depart-hops-requires c =
 pub returns : goal.returns
 unfolding leave route outcome if_accepted
 returns c =
+    let start = (goal.at.returns c).Start in
     let a = c.args in
-    let go = leave (given (goal.at.returns c).Start) a.picks.now a.s.0 a.d.0 in
-    let way = ap (if_accepted go) (sym (ap said c.in-Accepted.is) ∙ decided (goal.at.returns c).Start) in
+    let go = leave (given start) a.picks.now a.s.0 a.d.0 in
+    let way = ap (if_accepted go) (sym (ap said c.in-Accepted.is) ∙ decided start) in
     (rw c.depart-hops.ensures.0 (ap outcome way), c.depart-hops.ensures.1 ∙ ap (λ (x : Reply Route). path_by x a.s.0 a.path.now) way)

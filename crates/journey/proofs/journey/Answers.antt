@@ -27,10 +27,11 @@ path_of c x = path_by x c.args.s.0 c.args.path.now
 pub returns-then-number-ne0 : goal.returns-then-number-ne0
 unfolding journey outcome vectors_after path_after path_by
 returns-then-number-ne0 c =
+    let start = (goal.at.returns-then-number-ne0 c).Start in
     let e = c.journey_refusal-number.ensures in
-    let some : number (goal.at.returns-then-number-ne0 c).Start ≡ 0 → ⊥ = λ z. c.if-number-ne0.true (e ∙ z) in
-    let j = unless_some (number (goal.at.returns-then-number-ne0 c).Start) (route (given (goal.at.returns-then-number-ne0 c).Start) c.args.picks.now c.args.s.0 c.args.d.0) some in
-    (ap refused e ∙ sym (ap outcome j), sym (kept_some (number (goal.at.returns-then-number-ne0 c).Start) _ _ some), sym (ap (path_of (goal.at.returns-then-number-ne0 c).Start) j))
+    let some : number start ≡ 0 → ⊥ = λ z. c.if-number-ne0.true (e ∙ z) in
+    let j = unless_some (number start) (route (given start) c.args.picks.now c.args.s.0 c.args.d.0) some in
+    (ap refused e ∙ sym (ap outcome j), sym (kept_some (number start) _ _ some), sym (ap (path_of start) j))
 
 -- past the refusals
 clear : (c : Else-number-ne0) → Clear (report c.args.n c.args.status.now c.args.links.now) c.args.vectors.now c.args.picks.now c.args.path.now c.args.s.0 c.args.d.0
@@ -54,7 +55,8 @@ by_answers-requires c =
 pub returns : goal.returns
 unfolding filled journey vectors_after path_after
 returns c =
+    let start = (goal.at.returns c).Start in
     let none = sym c.journey_refusal-number.ensures ∙ c.if-number-ne0.false in
-    let written = c.fill-filled.ensures.1 ∙ kept_none (fill_refusal (given (goal.at.returns c).Start) c.args.vectors.now) _ _ (clear (goal.at.returns c).Else-number-ne0).fills in
-    let way = sym (unless_none (number (goal.at.returns c).Start) _ none) in
-    (c.by_answers.ensures.0 ∙ ap outcome way, written ∙ sym (kept_none (number (goal.at.returns c).Start) _ _ none), c.by_answers.ensures.1 ∙ ap (path_of (goal.at.returns c).Start) way)
+    let written = c.fill-filled.ensures.1 ∙ kept_none (fill_refusal (given start) c.args.vectors.now) _ _ (clear (goal.at.returns c).Else-number-ne0).fills in
+    let way = sym (unless_none (number start) _ none) in
+    (c.by_answers.ensures.0 ∙ ap outcome way, written ∙ sym (kept_none (number start) _ _ none), c.by_answers.ensures.1 ∙ ap (path_of start) way)

@@ -28,10 +28,14 @@ nodes : (c : Else-number-ne0) → 2 ^ (n_in c.args.bytes.now % 16) ≡ 2 ^ n_in 
 nodes c = nodes_known _ (readable _ _ _ (none c)).dimensions
 
 pub write_status-requires : goal.write_status-requires
-write_status-requires c = omega (arith, readable _ _ _ (none (goal.at.write_status-requires c).Else-number-ne0), nodes (goal.at.write_status-requires c).Else-number-ne0)
+write_status-requires c =
+    let here = (goal.at.write_status-requires c).Else-number-ne0 in
+    omega (arith, readable _ _ _ (none here), nodes here)
 
 pub write_links-requires : goal.write_links-requires
-write_links-requires c = omega (arith, readable _ _ _ (none (goal.at.write_links-requires c).Else-number-ne0), nodes (goal.at.write_links-requires c).Else-number-ne0, c.nodes_of-nodes.ensures)
+write_links-requires c =
+    let here = (goal.at.write_links-requires c).Else-number-ne0 in
+    omega (arith, readable _ _ _ (none here), nodes here, c.nodes_of-nodes.ensures)
 
 pub returns : goal.returns
 returns c =

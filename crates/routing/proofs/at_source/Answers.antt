@@ -60,15 +60,17 @@ mask-p-requires c =
 
 pub returns-then-own-eq1 : goal.returns-then-own-eq1
 returns-then-own-eq1 c =
-    c.assured.ensures (Q (goal.at.returns-then-own-eq1 c).After-weight-h)
-    ∙ ap₂ (λ (t : Bool) (p : ℕ). choose t p (Q (goal.at.returns-then-own-eq1 c).After-weight-h) (far (goal.at.returns-then-own-eq1 c).After-weight-h)) (sym (one_true (bits (goal.at.returns-then-own-eq1 c).After-weight-h (far (goal.at.returns-then-own-eq1 c).After-weight-h) _) _ c.own.ensures c.if-own-eq1.true)) c.mask-p.ensures
-    ∙ rule (goal.at.returns-then-own-eq1 c).After-weight-h
+    let here = (goal.at.returns-then-own-eq1 c).After-weight-h in
+    c.assured.ensures (Q here)
+    ∙ ap₂ (λ (t : Bool) (p : ℕ). choose t p (Q here) (far here)) (sym (one_true (bits here (far here) _) _ c.own.ensures c.if-own-eq1.true)) c.mask-p.ensures
+    ∙ rule here
 
 pub returns-then-p-ne0 : goal.returns-then-p-ne0
 returns-then-p-ne0 c =
-    sym (choose_lent c.mask-p.result (Q (goal.at.returns-then-p-ne0 c).After-weight-h) (far (goal.at.returns-then-p-ne0 c).After-weight-h) c.if-p-ne0.true)
-    ∙ ap₂ (λ (t : Bool) (p : ℕ). choose t p (Q (goal.at.returns-then-p-ne0 c).After-weight-h) (far (goal.at.returns-then-p-ne0 c).After-weight-h)) (sym (one_false (bits (goal.at.returns-then-p-ne0 c).After-weight-h (far (goal.at.returns-then-p-ne0 c).After-weight-h) _) _ c.own.ensures c.if-own-eq1.false)) c.mask-p.ensures
-    ∙ rule (goal.at.returns-then-p-ne0 c).After-weight-h
+    let here = (goal.at.returns-then-p-ne0 c).After-weight-h in
+    sym (choose_lent c.mask-p.result (Q here) (far here) c.if-p-ne0.true)
+    ∙ ap₂ (λ (t : Bool) (p : ℕ). choose t p (Q here) (far here)) (sym (one_false (bits here (far here) _) _ c.own.ensures c.if-own-eq1.false)) c.mask-p.ensures
+    ∙ rule here
 
 pub overflow_add-h : goal.overflow_add-h
 overflow_add-h c =
@@ -85,8 +87,9 @@ detour-requires c =
 
 pub returns : goal.returns
 returns c =
+    let here = (goal.at.returns c).After-weight-h in
     let a = c.args in
     c.detour.ensures
-    ∙ ap (λ (q : ℕ). choose false 0 q (far (goal.at.returns c).After-weight-h)) (c.mask-q.ensures ∙ ap (λ (x : ℕ). offer a.n (links (goal.at.returns c).After-weight-h) (bits (goal.at.returns c).After-weight-h (far (goal.at.returns c).After-weight-h + 1)) x a.s.0) c.spare.ensures)
-    ∙ ap₂ (λ (t : Bool) (p : ℕ). choose t p (Q (goal.at.returns c).After-weight-h) (far (goal.at.returns c).After-weight-h)) (sym (one_false (bits (goal.at.returns c).After-weight-h (far (goal.at.returns c).After-weight-h) _) _ c.own.ensures c.if-own-eq1.false)) (sym c.if-p-ne0.false ∙ c.mask-p.ensures)
-    ∙ rule (goal.at.returns c).After-weight-h
+    ∙ ap (λ (q : ℕ). choose false 0 q (far here)) (c.mask-q.ensures ∙ ap (λ (x : ℕ). offer a.n (links here) (bits here (far here + 1)) x a.s.0) c.spare.ensures)
+    ∙ ap₂ (λ (t : Bool) (p : ℕ). choose t p (Q here) (far here)) (sym (one_false (bits here (far here) _) _ c.own.ensures c.if-own-eq1.false)) (sym c.if-p-ne0.false ∙ c.mask-p.ensures)
+    ∙ rule here

@@ -50,25 +50,28 @@ clear c =
 
 pub at_source-requires : goal.at_source-requires
 at_source-requires c =
+    let here = (goal.at.at_source-requires c).After-dimension in
     let a = c.args in
     let k = clear (goal.at.at_source-requires c).Then-dimension-sized in
-    let l = clear_lengths (given (goal.at.at_source-requires c).After-dimension) (lent (goal.at.at_source-requires c).After-dimension) a.s.0 a.d.0 a.d.0 k in
+    let l = clear_lengths (given here) (lent here) a.s.0 a.d.0 a.d.0 k in
     ((dimension_range a.n k.dim).1, l.0, l.1, k.node, rw c.to.ensures (xor_lt a.n a.s.0 a.d.0 k.node k.other))
 
 pub returns-then-dimension-sized : goal.returns-then-dimension-sized
 unfolding decide cube
 returns-then-dimension-sized c =
+    let here = (goal.at.returns-then-dimension-sized c).After-dimension in
     let a = c.args in
     c.at_source.ensures
-    ∙ ap (λ (x : ℕ). at_source a.n (cut a.links.now) (own (lent (goal.at.returns-then-dimension-sized c).After-dimension)) a.s.0 x (weight x)) c.to.ensures
-    ∙ sym (unless_none (number (goal.at.returns-then-dimension-sized c).After-dimension) _ (decide_none (given (goal.at.returns-then-dimension-sized c).After-dimension) (lent (goal.at.returns-then-dimension-sized c).After-dimension) a.s.0 a.d.0 (clear (goal.at.returns-then-dimension-sized c).Then-dimension-sized)))
+    ∙ ap (λ (x : ℕ). at_source a.n (cut a.links.now) (own (lent here)) a.s.0 x (weight x)) c.to.ensures
+    ∙ sym (unless_none (number here) _ (decide_none (given here) (lent here) a.s.0 a.d.0 (clear (goal.at.returns-then-dimension-sized c).Then-dimension-sized)))
 
 pub returns : goal.returns
 unfolding decide within all_sized cube
 returns c =
+    let here = (goal.at.returns c).After-dimension in
     let a = c.args in
-    ap refused c.decide_refusal.ensures ∙ sym (unless_some (number (goal.at.returns c).After-dimension) _ (λ z.
-    let k = decide_clear (given (goal.at.returns c).After-dimension) (lent (goal.at.returns c).After-dimension) a.s.0 a.d.0 z in
+    ap refused c.decide_refusal.ensures ∙ sym (unless_some (number here) _ (λ z.
+    let k = decide_clear (given here) (lent here) a.s.0 a.d.0 z in
     true≢false (rw (
       c.dimension.ensures ∙ k.dim,
       c.all_sized-sized.ensures ∙ k.sizes,

@@ -54,28 +54,31 @@ clear c =
 
 pub at_node-requires : goal.at_node-requires
 at_node-requires c =
+    let here = (goal.at.at_node-requires c).After-dimension in
     let a = c.args in
     let k = clear (goal.at.at_node-requires c).Then-dimension-sized in
-    let l = clear_lengths (given (goal.at.at_node-requires c).After-dimension) (lent (goal.at.at_node-requires c).After-dimension) a.a.0 a.nav.0 (end (goal.at.at_node-requires c).After-dimension) k in
+    let l = clear_lengths (given here) (lent here) a.a.0 a.nav.0 (end here) k in
     ((dimension_range a.n k.dim).1, l.0, l.1, k.node, k.other)
 
 pub returns-then-dimension-sized : goal.returns-then-dimension-sized
 unfolding hop cube
 returns-then-dimension-sized c =
+    let here = (goal.at.returns-then-dimension-sized c).After-dimension in
     let a = c.args in
-    c.at_node.ensures ∙ sym (unless_none (number (goal.at.returns-then-dimension-sized c).After-dimension) _ (hop_none (given (goal.at.returns-then-dimension-sized c).After-dimension) (lent (goal.at.returns-then-dimension-sized c).After-dimension) a.a.0 a.nav.0 (clear (goal.at.returns-then-dimension-sized c).Then-dimension-sized)))
+    c.at_node.ensures ∙ sym (unless_none (number here) _ (hop_none (given here) (lent here) a.a.0 a.nav.0 (clear (goal.at.returns-then-dimension-sized c).Then-dimension-sized)))
 
 pub returns : goal.returns
 unfolding hop within all_sized cube
 returns c =
+    let here = (goal.at.returns c).After-dimension in
     let a = c.args in
-    ap refused c.hop_refusal.ensures ∙ sym (unless_some (number (goal.at.returns c).After-dimension) _ (λ z.
-    let k = hop_clear (given (goal.at.returns c).After-dimension) (lent (goal.at.returns c).After-dimension) a.a.0 a.nav.0 z in
+    ap refused c.hop_refusal.ensures ∙ sym (unless_some (number here) _ (λ z.
+    let k = hop_clear (given here) (lent here) a.a.0 a.nav.0 z in
     true≢false (rw (
       c.dimension.ensures ∙ k.dim,
       c.all_sized-sized.ensures ∙ k.sizes,
       c.has_node.ensures ∙ lt-ltb _ _ k.node,
       c.has_address.ensures ∙ lt-ltb _ _ k.other,
       c.works.ensures ∙ k.here,
-      reached (goal.at.returns c).After-dimension ∙ k.there,
+      reached here ∙ k.there,
     ) at c.if-dimension-sized.false)))

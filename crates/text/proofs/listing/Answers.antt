@@ -30,8 +30,9 @@ put_opened-requires c = (answer (goal.at.put_opened-requires c).After-open-opene
 pub returns : goal.returns
 unfolding listing
 returns c =
+    let here = (goal.at.returns c).After-open-opened in
     let a = c.args in
     let r = c.open-opened in
-    rw (le-ltb 4096 (length a.bytes.now) (omega arith), ← (answer (goal.at.returns c).After-open-opened).tells)
-    (let whole = put_whole c.put_opened.ensures (omega (arith, length_listed (said r.result) r.new.status r.new.links (answer (goal.at.returns c).After-open-opened).fit)) in
+    rw (le-ltb 4096 (length a.bytes.now) (omega arith), ← (answer here).tells)
+    (let whole = put_whole c.put_opened.ensures (omega (arith, length_listed (said r.result) r.new.status r.new.links (answer here).fit)) in
     record { count = whole.0; length = whole.1.0; text = whole.1.1 })

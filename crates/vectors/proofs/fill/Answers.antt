@@ -21,9 +21,10 @@ number c = fill_refusal (given c) c.args.vectors.now
 pub returns-then-number-ne0 : goal.returns-then-number-ne0
 unfolding fill filled
 returns-then-number-ne0 c =
+    let start = (goal.at.returns-then-number-ne0 c).Start in
     let e = c.fill_refusal-number.ensures in
-    let some : number (goal.at.returns-then-number-ne0 c).Start ≡ 0 → ⊥ = λ z. c.if-number-ne0.true (e ∙ z) in
-    (ap refused e ∙ sym (unless_some (number (goal.at.returns-then-number-ne0 c).Start) _ some), sym (kept_some (number (goal.at.returns-then-number-ne0 c).Start) _ _ some))
+    let some : number start ≡ 0 → ⊥ = λ z. c.if-number-ne0.true (e ∙ z) in
+    (ap refused e ∙ sym (unless_some (number start) _ some), sym (kept_some (number start) _ _ some))
 
 pub write_vectors-requires : goal.write_vectors-requires
 write_vectors-requires c =
@@ -32,5 +33,6 @@ write_vectors-requires c =
 pub returns : goal.returns
 unfolding fill filled cube
 returns c =
+    let start = (goal.at.returns c).Start in
     let none = sym c.fill_refusal-number.ensures ∙ c.if-number-ne0.false in
-    (sym (unless_none (number (goal.at.returns c).Start) _ none), c.write_vectors.ensures ∙ after_all (cube (given (goal.at.returns c).Start)) ∙ sym (kept_none (number (goal.at.returns c).Start) _ _ none))
+    (sym (unless_none (number start) _ none), c.write_vectors.ensures ∙ after_all (cube (given start)) ∙ sym (kept_none (number start) _ _ none))

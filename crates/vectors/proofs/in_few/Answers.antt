@@ -19,5 +19,6 @@ slice_bounds-bytes-end c = omega (arith, few (goal.at.slice_bounds-bytes-end c).
 
 pub by_rounds-requires : goal.by_rounds-requires
 by_rounds-requires c =
+    let start = (goal.at.by_rounds-requires c).Start in
     let small : c.args.n < 64 = omega (arith, c.requires.0) in
-    (omega (arith, c.requires.0), room 0 c.args.n 32 _ small (few (goal.at.by_rounds-requires c).Start) refl, room 1 c.args.n 32 _ small (few (goal.at.by_rounds-requires c).Start) refl, c.requires.1, c.requires.2)
+    (omega (arith, c.requires.0), room 0 c.args.n 32 _ small (few start) refl, room 1 c.args.n 32 _ small (few start) refl, c.requires.1, c.requires.2)

@@ -18,5 +18,6 @@ slice_bounds-bytes-end c = omega (arith, few (goal.at.slice_bounds-bytes-end c).
 
 pub by_rounds-requires : goal.by_rounds-requires
 by_rounds-requires c =
+    let start = (goal.at.by_rounds-requires c).Start in
     let small : c.args.n < 64 = omega (arith, c.requires.0) in
-    (omega (arith, c.requires.0), room 0 c.args.n 1024 _ small (few (goal.at.by_rounds-requires c).Start) c.room_for_masks-masks.ensures, room 1 c.args.n 1024 _ small (few (goal.at.by_rounds-requires c).Start) c.room_for_bytes-bytes.ensures, c.requires.1, c.requires.2)
+    (omega (arith, c.requires.0), room 0 c.args.n 1024 _ small (few start) c.room_for_masks-masks.ensures, room 1 c.args.n 1024 _ small (few start) c.room_for_bytes-bytes.ensures, c.requires.1, c.requires.2)

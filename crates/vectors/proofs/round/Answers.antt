@@ -10,14 +10,14 @@ use Rattle.cube.proofs.Table.{length_table}
 use Rattle.vectors.specs.Rounds.{up_to, digit, known}
 use Rattle.vectors.proofs.Rounds.{midst_start, midst_end, midst_step, midst_word, up_to_lt, digits_of, shown_next}
 use Rattle.vectors.proofs.round.Goals as goal
-use Rattle.vectors.proofs.round.Goals.{After-slice_known-in-loop-a-1}
+use Rattle.vectors.proofs.round.Goals.{After-next_bit-bit}
 
-at_board : (c : After-slice_known-in-loop-a-1) → c.loop-a.a < 2 ^ c.args.n
+at_board : (c : After-next_bit-bit) → c.loop-a.a < 2 ^ c.args.n
 unfolding known
 at_board c = omega (arith, c.loop-a.invariant.2.long)
 
 -- what is stored at board a
-word : (c : After-slice_known-in-loop-a-1)
+word : (c : After-next_bit-bit)
     → get_or c.loop-a.vectors c.loop-a.a 0 + c.next_bit-bit.result * 2 ^ c.args.k % 65536
     ≡ up_to (known c.args.n c.args.status.now c.args.masks.now) (suc c.args.k) c.loop-a.a
 unfolding known
@@ -45,7 +45,7 @@ pub overflow_add-vectors : goal.overflow_add-vectors
 unfolding known
 overflow_add-vectors c =
     let a = c.args in
-    record { fits = rw (word (goal.at.overflow_add-vectors c).After-slice_known-in-loop-a-1) (lt_of_lt_of_le (up_to_lt (known a.n a.status.now a.masks.now) (suc a.k) c.loop-a.a) (pow_mono {i = suc a.k} {j = 16} (omega arith))) }
+    record { fits = rw (word (goal.at.overflow_add-vectors c).After-next_bit-bit) (lt_of_lt_of_le (up_to_lt (known a.n a.status.now a.masks.now) (suc a.k) c.loop-a.a) (pow_mono {i = suc a.k} {j = 16} (omega arith))) }
 
 pub loop-a-smaller : goal.loop-a-smaller
 loop-a-smaller c = simp length-set (omega arith)
@@ -53,11 +53,12 @@ loop-a-smaller c = simp length-set (omega arith)
 pub loop-a-preserved : goal.loop-a-preserved
 unfolding known
 loop-a-preserved c =
+    let here = (goal.at.loop-a-preserved c).After-next_bit-bit in
     let a = c.args in
     let l = c.loop-a in (
       simp length-set (omega arith),
       simp length-set (omega arith),
-      midst_step (known a.n a.status.now a.masks.now) a.k l.a l.vectors l.invariant.2 (at_board (goal.at.loop-a-preserved c).After-slice_known-in-loop-a-1) _ (word (goal.at.loop-a-preserved c).After-slice_known-in-loop-a-1),
+      midst_step (known a.n a.status.now a.masks.now) a.k l.a l.vectors l.invariant.2 (at_board here) _ (word here),
     )
 
 pub returns : goal.returns
