@@ -70,8 +70,8 @@ pub record Readable (bytes status links : List ℕ) : Type 0 where
 pub readable : (bytes status links : List ℕ) → open_refusal bytes status links ≡ 0 → Readable bytes status links
 unfolding open_refusal
 readable bytes status links none =
-    let short = passed _ _ _ none in
-    let total = passed _ _ _ short.1 in
+    let short = passed (ltb (length bytes) 5) 9 _ none in
+    let total = passed (not (eqb (length_in bytes) (length bytes - 2))) 9 _ short.1 in
     let kind = passed (not (eqb (kind_in bytes) 1)) 9 _ total.1 in
     let dim = passed (not (dimension (n_in bytes))) 0 _ kind.1 in
     let size = passed (not (eqb (length_in bytes) (3 + 3 * 2 ^ n_in bytes))) 9 _ dim.1 in
