@@ -1,7 +1,7 @@
 #!/usr/bin/env python3
 """Runs the script `deruvain` as people do and as they do by mistake: each time its status, and all that it writes.
 
-Runs after `rt check`, on the programs that are built: an rt stands first on the PATH that refuses to build.
+Runs after `rt ci`, on the programs that it built: an rt stands first on the PATH that refuses to build.
 What a build does is tried in small repositories of the test's own, with an rt and programs that are a few lines each."""
 import glob
 import os
@@ -92,7 +92,7 @@ def helped():
 def answered():
     for path in sorted(glob.glob(sample("*.record"))):
         record = read(path)
-        text = subprocess.run([os.path.join(ROOT, "target", "bin", "listing")], input=record, stdout=subprocess.PIPE).stdout
+        text = subprocess.run([os.path.join(ROOT, "crates", "listing", "out", "listing")], input=record, stdout=subprocess.PIPE).stdout
         expect(path, call(["listing", path]), 0, text, "")
         expect(path + " on standard input", call(["listing"], input=record), 0, text, "")
     expect("-", call(["listing", "-"], input=record), 0, text, "")
@@ -284,7 +284,7 @@ def start(words, **how):
 def signals():
     for number in (signal.SIGTERM, signal.SIGINT, signal.SIGHUP):
         script = start([os.path.join(ROOT, "deruvain"), "listing"], env=ENV)
-        expect("signal %d" % number, stopped(script, b"target/bin/listing", number), -number, b"", "")
+        expect("signal %d" % number, stopped(script, b"listing/out/listing", number), -number, b"", "")
 
 
 def terminal(keys):
@@ -322,12 +322,14 @@ def keyboard():
 # ---- builds, in repositories of a few lines
 
 RT = """#!/bin/sh
-echo "rt $*" >> calls
-[ ! -e slow ] || sleep "$(cat slow)"
-[ ! -e broken ] || { echo 'rt: what is wrong'; exit 1; }
-mkdir -p target/bin target/stamp
-cp "crates/$2/src/main.rt" "target/bin/$2" && chmod +x "target/bin/$2" && touch target/stamp/below "target/stamp/$2"
-echo "rt done" >> calls
+root=../.. program=out/${PWD##*/}
+echo "rt $*" >> $root/calls
+[ ! -e $root/slow ] || sleep "$(cat $root/slow)"
+[ ! -e $root/broken ] || { echo 'rt: what is wrong'; exit 1; }
+mkdir -p out ../below/out/rlib
+touch ../below/out/rlib/stamp
+cp src/main.rt "$program" && chmod +x "$program"
+echo "rt done" >> $root/calls
 """
 LISTS = "#!/bin/sh\ncat > /dev/null\nprintf 'cube 1\\n0 working 1\\n1 working 1\\n'\n"
 LISTED = b"cube 1\n0 working 1\n1 working 1\n"
@@ -336,7 +338,7 @@ LISTED = b"cube 1\n0 working 1\n1 working 1\n"
 def repository(name, program=LISTS):
     """A repository with two programs over a crate of 20,000 bytes, and the script."""
     root = os.path.join(WORK, name)
-    write(os.path.join(root, "crates.txt"), "below:\nlisting: below io # a program\ncases_run: below\n")
+    write(os.path.join(root, "crates.txt"), "below:\nlisting: below io # a program\ncases_run: below\narchive staticlib: below\n")
     write(os.path.join(root, "crates", "below", "src", "lib.rt"), "// x\n" * 4000)
     write(os.path.join(root, "crates", "listing", "src", "main.rt"), program)
     write(os.path.join(root, "crates", "cases_run", "src", "main.rt"), "#!/bin/sh\nread -r x\necho \"case $x\"\n")
@@ -362,7 +364,7 @@ def builds():
     lacking, having = {**ENV, "PATH": bare}, {**ENV, "PATH": with_rt + ":" + bare}
     absent = "the command rt of the Rattle kit isn't on the PATH"
     root, script = repository("first")
-    program = os.path.join(root, "target", "bin", "listing")
+    program = os.path.join(root, "crates", "listing", "out", "listing")
     fails("no rt and no program", ["listing"], 3, "listing: the program listing is not built, and " + absent, script=script, env=lacking)
     fails("check with no rt", ["check"], 3, "check: " + absent, script=script, env=lacking)
     building = "listing: proving and building the program listing, about %s\n"
@@ -444,7 +446,7 @@ def samples():
 
 
 os.makedirs(TEMP)
-write(os.path.join(TOOLS, "rt"), "#!/bin/sh\necho 'tests/command.py builds nothing: run rt check first'\nexit 1\n", 0o755)
+write(os.path.join(TOOLS, "rt"), "#!/bin/sh\necho 'tests/command.py builds nothing: run rt ci first'\nexit 1\n", 0o755)
 for test in (helped, answered, documents, wrong, refused, unread, unwritten, kept, signals, keyboard, builds, turns, programs, samples):
     test()
 print("command: %d runs as expected" % runs)

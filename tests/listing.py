@@ -7,7 +7,7 @@ import subprocess
 import sys
 
 ROOT = os.path.dirname(os.path.dirname(os.path.abspath(__file__)))
-PROGRAM = os.path.join(ROOT, "target", "bin", "listing")
+PROGRAM = os.path.join(ROOT, "crates", "listing", "out", "listing")
 BOARDS = b"\2\1\1\0\1"
 FOUR = "cube 2\n0 working 11\n1 working 11\n2 silent 00\n3 working 11\n"
 runs = 0

@@ -8,7 +8,7 @@ import tempfile
 import threading
 
 ROOT = os.path.dirname(os.path.dirname(os.path.abspath(__file__)))
-PROGRAM = os.path.join(ROOT, "target", "bin", "refresh")
+PROGRAM = os.path.join(ROOT, "crates", "refresh", "out", "refresh")
 WORK = tempfile.TemporaryDirectory()
 runs = 0
 
