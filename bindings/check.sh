@@ -5,7 +5,7 @@ set -eu
 cd "$(dirname "$0")"
 root=$(cd .. && pwd)
 built=$root/target/bindings
-archive=$root/target/staticlib/libderuvain.a
+archive=$root/crates/deruvain/out/libderuvain.a
 export CARGO_TARGET_DIR="$built"
 export RUSTFLAGS="-D warnings"
 export RUSTDOCFLAGS="-D warnings"
@@ -24,14 +24,15 @@ check() {
     fi
 }
 
-# Whether the archive is there and no source is newer. Wrong versions for the gate don't count.
+# Whether the archive is there and no source is newer. Wrong versions for the gate don't count, nor does what rt makes.
 is_made() {
-    [ -e "$archive" ] &&
-        [ -z "$(find "$root/crates" "$root/crates.txt" -name must-fail -prune -o -newer "$archive" -print | head -n 1)" ]
+    [ -e "$archive" ] && [ ! "$root/crates.txt" -nt "$archive" ] &&
+        [ -z "$(cd "$root/crates" && find . \( -name must-fail -o -name out \) -prune -o -path './*/*' -newer "$archive" -print | head -n 1)" ]
 }
 
+# rt ci proves the crate and makes no archive of it: that is rt lib's.
 make_archive() {
-    (cd "$root" && rt staticlib deruvain)
+    (cd "$root/crates/deruvain" && rt lib)
 }
 
 c_example() {

@@ -21,7 +21,7 @@
  * touches memory other than its slices, so calls from several threads need no lock as long as no
  * slice that one of them writes is used by another.
  *
- * Link with libderuvain.a, which `rt staticlib deruvain` writes to target/staticlib/.
+ * Link with libderuvain.a, which `rt lib` in crates/deruvain writes to its out/.
  */
 #ifndef DERUVAIN_H
 #define DERUVAIN_H

@@ -1,6 +1,6 @@
 //! Links the proved archive.
 //!
-//! That is the one that DERUVAIN_ARCHIVE names, or else target/staticlib/libderuvain.a of this repository, which `rt`
+//! That is the one that DERUVAIN_ARCHIVE names, or else crates/deruvain/out/libderuvain.a of this repository, which `rt`
 //! proves and makes if it is missing or older than a source.
 
 use std::fs::{self, File, OpenOptions};
@@ -10,6 +10,9 @@ use std::process::{exit, Child, Command, Stdio};
 use std::time::SystemTime;
 
 const PREBUILT: &str = "DERUVAIN_ARCHIVE";
+
+/// The archive that `rt lib` makes in the folder of the crate `deruvain`.
+const MADE: &str = "crates/deruvain/out/libderuvain.a";
 
 fn main() {
     println!("cargo:rerun-if-env-changed={PREBUILT}");
@@ -51,8 +54,8 @@ fn prebuilt(path: PathBuf) -> PathBuf {
 /// The archive of this repository, made if it is missing or old.
 fn made_here() -> PathBuf {
     let root = repository_root();
-    let archive = root.join("target").join("staticlib").join("libderuvain.a");
-    let sources = [root.join("crates"), root.join("crates.txt")];
+    let archive = root.join(MADE);
+    let sources = sources(&root);
     for source in &sources {
         println!("cargo:rerun-if-changed={}", source.display());
     }
@@ -62,6 +65,16 @@ fn made_here() -> PathBuf {
         Ok(_) => {}
     }
     archive
+}
+
+/// What the archive is made from: of each crate what `rt` reads, and not what it makes there, nor the wrong versions for the gate.
+fn sources(root: &Path) -> Vec<PathBuf> {
+    let crates = match root.join("crates").read_dir() {
+        Ok(crates) => crates.filter_map(|entry| Some(entry.ok()?.path())),
+        Err(error) => fail(&format!("{}/crates can't be read: {error}", root.display())),
+    };
+    let parts = crates.flat_map(|folder| ["src", "specs", "proofs"].map(|part| folder.join(part)));
+    parts.filter(|part| part.is_dir()).chain([root.join("crates.txt")]).collect()
 }
 
 /// The nearest folder above this crate that has a file crates.txt.
@@ -76,10 +89,9 @@ fn repository_root() -> PathBuf {
     }
 }
 
-/// When a file was last changed in any of these files and folders. Wrong versions for the gate don't count.
+/// When a file was last changed in any of these files and folders.
 fn newest(paths: &[PathBuf]) -> Option<SystemTime> {
-    let counted = paths.iter().filter(|path| !path.ends_with("must-fail"));
-    counted.filter_map(|path| newest_in(path)).max()
+    paths.iter().filter_map(|path| newest_in(path)).max()
 }
 
 fn newest_in(path: &Path) -> Option<SystemTime> {
@@ -95,34 +107,34 @@ fn newest_in(path: &Path) -> Option<SystemTime> {
 fn make(root: &Path, why: &str) {
     let mut terminal = OpenOptions::new().write(true).open("/dev/tty").ok();
     let about = "proving the library, about two minutes from nothing";
-    tell(&mut terminal, &format!("target/staticlib/libderuvain.a {why}: {about}"));
-    let verdict = out_folder().join("rt.verdict");
-    let mut rt = start_rt(root, why, &verdict);
+    tell(&mut terminal, &format!("{MADE} {why}: {about}"));
+    let errors = out_folder().join("rt.errors");
+    let mut rt = start_rt(root, why, &errors);
     let mut progress = Vec::new();
-    for line in BufReader::new(rt.stderr.take().expect("it is piped")).lines().map_while(Result::ok) {
-        if line.starts_with("rt: ") {
+    for line in BufReader::new(rt.stdout.take().expect("it is piped")).lines().map_while(Result::ok) {
+        if line.starts_with("rt: ") || line.starts_with("so far: ") || line.starts_with("logic=") {
             tell(&mut terminal, &line);
         }
         progress.push(line);
     }
     if !rt.wait().map_or(false, |status| status.success()) {
-        let verdict = fs::read_to_string(verdict).unwrap_or_default();
-        let said: Vec<&str> = verdict.lines().chain(progress.iter().map(String::as_str)).collect();
+        let errors = fs::read_to_string(errors).unwrap_or_default();
+        let said: Vec<&str> = progress.iter().map(String::as_str).chain(errors.lines()).collect();
         let last = said.len().saturating_sub(30);
-        fail(&format!("`rt staticlib deruvain` failed; it said at the end:\n{}", said[last..].join("\n")));
+        fail(&format!("`rt lib` in crates/deruvain failed; it said at the end:\n{}", said[last..].join("\n")));
     }
-    println!("cargo:warning=target/staticlib/libderuvain.a {why}: `rt staticlib deruvain` proved and made it");
+    println!("cargo:warning={MADE} {why}: `rt lib` proved and made it");
 }
 
-/// Starts `rt`, with its verdict into a file and its progress to be read here.
-fn start_rt(root: &Path, why: &str, verdict: &Path) -> Child {
-    let kept = File::create(verdict).map_or_else(|_| Stdio::null(), Stdio::from);
+/// Starts `rt`, with its errors into a file, and its progress and verdict to be read here.
+fn start_rt(root: &Path, why: &str, errors: &Path) -> Child {
+    let kept = File::create(errors).map_or_else(|_| Stdio::null(), Stdio::from);
     let mut rt = Command::new("rt");
-    rt.args(["staticlib", "deruvain"]).current_dir(root).stdout(kept).stderr(Stdio::piped());
+    rt.arg("lib").current_dir(root.join("crates").join("deruvain")).stdout(Stdio::piped()).stderr(kept);
     match rt.spawn() {
         Ok(rt) => rt,
         Err(error) if error.kind() == ErrorKind::NotFound => fail(&format!(
-            "target/staticlib/libderuvain.a {why}, and the command `rt` of the Rattle kit, which proves and makes it, \
+            "{MADE} {why}, and the command `rt` of the Rattle kit, which proves and makes it, \
              isn't on the PATH. Put the kit on the PATH, or set {PREBUILT} to the path of an archive made elsewhere"
         )),
         Err(error) => fail(&format!("`rt` of the Rattle kit did not start: {error}")),

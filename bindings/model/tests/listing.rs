@@ -1,6 +1,6 @@
 //! What the model prints for a record, and what the program `listing` prints for it.
 //!
-//! The program must be built: `rt check listing` in the repository's root.
+//! The program must be built: `rt run` in crates/listing, or `rt ci`.
 
 use deruvain_model::model::listing;
 use deruvain_model::random::Random;
@@ -15,10 +15,10 @@ fn root() -> PathBuf {
 
 /// What the program prints on standard output.
 fn printed(record: &[u8]) -> String {
-    let program = root().join("target/bin/listing");
+    let program = root().join("crates/listing/out/listing");
     let (input, output) = (Stdio::piped(), Stdio::piped());
     let started = Command::new(&program).stdin(input).stdout(output).stderr(Stdio::null()).spawn();
-    let mut child = started.unwrap_or_else(|why| panic!("{}: {why}; run `rt check listing` first", program.display()));
+    let mut child = started.unwrap_or_else(|why| panic!("{}: {why}; run `rt run` in crates/listing first", program.display()));
     // a program that has read enough may close its end
     let _ = child.stdin.take().unwrap().write_all(record);
     String::from_utf8(child.wait_with_output().unwrap().stdout).unwrap()

@@ -34,11 +34,11 @@ impl Repository {
     fn new(name: &str) -> Repository {
         let root = folder().join(name);
         let _ = fs::remove_dir_all(&root);
-        for folder in ["crates/deruvain", "bindings/rust", "out", "path"] {
+        for folder in ["crates/deruvain/src", "bindings/rust", "out", "path"] {
             fs::create_dir_all(root.join(folder)).unwrap();
         }
-        fs::write(root.join("crates.txt"), "deruvain:\n").unwrap();
-        fs::write(root.join("crates/deruvain/lib.rt"), "").unwrap();
+        fs::write(root.join("crates.txt"), "deruvain staticlib:\n").unwrap();
+        fs::write(root.join("crates/deruvain/src/lib.rt"), "").unwrap();
         Repository { root }
     }
 
@@ -77,16 +77,15 @@ impl Repository {
     }
 }
 
-const MAKES: &str = "[ \"$*\" = 'staticlib deruvain' ] || exit 2
-/bin/mkdir -p target/staticlib && echo made >target/staticlib/libderuvain.a
-echo 'rt: deruvain proved (15 s)' >&2";
+const MAKES: &str = "[ \"$*\" = lib ] && [ \"${PWD##*/crates/}\" = deruvain ] || exit 2
+/bin/mkdir -p out && echo made >out/libderuvain.a
+echo 'so far: 6 of 24 functions checked'";
 
 #[test]
 fn without_rt_the_kit_is_named() {
     let said = Repository::new("no_rt").failure(None);
-    assert!(
-        said.starts_with("deruvain: target/staticlib/libderuvain.a is missing, and the command `rt` of the Rattle kit")
-    );
+    assert!(said
+        .starts_with("deruvain: crates/deruvain/out/libderuvain.a is missing, and the command `rt` of the Rattle kit"));
     assert!(said.contains("DERUVAIN_ARCHIVE"));
     assert_eq!(said.lines().count(), 1);
 }
@@ -94,7 +93,7 @@ fn without_rt_the_kit_is_named() {
 #[test]
 fn a_missing_archive_is_made() {
     let (told, linked) = Repository::new("missing").with_rt(MAKES).success(None);
-    assert!(told.contains("cargo:warning=target/staticlib/libderuvain.a is missing: `rt staticlib deruvain` proved"));
+    assert!(told.contains("cargo:warning=crates/deruvain/out/libderuvain.a is missing: `rt lib` proved and made it"));
     assert!(told.contains("cargo:rustc-link-lib=static=deruvain\n"));
     assert_eq!(linked, "made\n");
 }
@@ -110,14 +109,18 @@ fn an_old_archive_is_made_again_and_a_new_one_is_not() {
         fs::write(repository.root.join(path), "").unwrap();
         repository.success(None).0.contains("libderuvain.a is older than its sources")
     };
-    assert!(touched("crates/deruvain/lib.rt"));
+    assert!(touched("crates/deruvain/src/lib.rt"));
+    assert!(touched("crates/deruvain/proofs/class/Answers.antt"));
+    assert!(touched("crates/cube/specs/Bits.antt"));
     assert!(touched("crates.txt"));
+    assert!(!touched("crates/deruvain/must-fail/mask.edit"));
+    assert!(!touched("crates/deruvain/out/incremental/kept"));
 }
 
 #[test]
 fn rt_that_fails_is_heard() {
     let said = Repository::new("fails").with_rt("echo 'a.rt:1: no'; echo 'rt: it broke' >&2; exit 1").failure(None);
-    assert_eq!(said, "deruvain: `rt staticlib deruvain` failed; it said at the end:\na.rt:1: no\nrt: it broke\n");
+    assert_eq!(said, "deruvain: `rt lib` in crates/deruvain failed; it said at the end:\na.rt:1: no\nrt: it broke\n");
 }
 
 #[test]
