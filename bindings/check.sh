@@ -56,6 +56,7 @@ run() {
 }
 
 is_made || check "the archive is made" make_archive
+[ -x "$root/crates/listing/out/listing" ] || check "the program listing is made" "$root/deruvain" listing "$root/samples/four-boards.record"
 check "the C example prints c/example.out" c_example
 check "the C program of README.md prints what it says" c_of_the_readme
 check "the header serves C++" cxx_header

@@ -106,7 +106,7 @@ fn newest_in(path: &Path) -> Option<SystemTime> {
 /// meanwhile is told to the terminal itself, if there is one.
 fn make(root: &Path, why: &str) {
     let mut terminal = OpenOptions::new().write(true).open("/dev/tty").ok();
-    let about = "proving the library, about two minutes from nothing";
+    let about = "proving the library, about three minutes from nothing";
     tell(&mut terminal, &format!("{MADE} {why}: {about}"));
     let errors = out_folder().join("rt.errors");
     let mut rt = start_rt(root, why, &errors);
