@@ -2,7 +2,7 @@
 ghost use Rattle.std.specs.Prelude.{◌≡◌, ◌≤◌, ◌<◌, length};
 
 use crate::{jobs, say};
-use bytes::scan;
+use std::io::Stdout;
 
 // A list with 99s behind it, its length, and the place after it.
 #[derive(Drop)]
@@ -102,50 +102,57 @@ fn numbers(line: &[u8], at: usize, head: u8, most: u16) -> List
     let first = number(line, from, 8191);
     let size = first.value;
     let mut end = first.end;
-    let mut count: usize = 0;
-    while count < size {
+    for count in 0..size {
         let next = number(line, end, most as usize);
         if next.end == end {
             return List { values, size, end };
         }
         values[count] = next.value as u16;
         end = next.end;
-        count += 1;
     }
     List { values, size, end }
 }
 
 // A list of numbers up to 255, and the 99s behind it, as bytes.
-fn bytes(list: List) -> [u8; 8192]
+fn bytes(list: &List) -> [u8; 8192]
     ensures { 8192 ≡ length result }
 {
     let values = list.values;
     let mut bytes = [0u8; 8192];
-    let mut i: usize = 0;
-    while i < 8192 {
+    for i in 0..8192 {
         bytes[i] = (values[i] % 256) as u8;
-        i += 1;
     }
     bytes
 }
 
 // Runs a job over these inputs and the lent memory that the rest of the line gives, unless some of the line is left over.
-fn lent(job: u8, n: u32, a: u16, b: u16, first: &[u8], links: &[u16], line: &[u8], at: usize)
+fn lent(
+    out: Stdout,
+    job: u8,
+    n: u32,
+    a: u16,
+    b: u16,
+    first: &[u8],
+    links: &[u16],
+    line: &[u8],
+    at: usize,
+)
     requires { at ≤ length line.now }
 {
     let v = numbers(line, at, b'v', 65535);
     let m = numbers(line, v.end, b'm', 255);
     let w = numbers(line, m.end, b'w', 65535);
     if w.end < line.len() {
-        return say::say(b"malformed");
+        return say::say(out, b"malformed");
     }
     let mut vectors = v.values;
-    let mut more = bytes(m);
+    let mut more = bytes(&m);
     let mut path = w.values;
     let i = v.size;
     let j = m.size;
     let k = w.size;
     jobs::run(
+        out,
         job,
         n,
         a,
@@ -156,11 +163,11 @@ fn lent(job: u8, n: u32, a: u16, b: u16, first: &[u8], links: &[u16], line: &[u8
         &mut more[0..j],
         &mut path[0..k],
     );
-    say::memory(job, &vectors, i, &more, j, &path, k);
+    say::memory(out, job, &vectors, i, &more, j, &path, k);
 }
 
 // Runs a job over what stands behind its letter.
-fn run(job: u8, line: &[u8]) {
+fn run(out: Stdout, job: u8, line: &[u8]) {
     let n = number(line, 0, 4294967295);
     let a = number(line, n.end, 65535);
     let b = number(line, a.end, 65535);
@@ -169,11 +176,12 @@ fn run(job: u8, line: &[u8]) {
     let d = b.value as u16;
     let f = numbers(line, b.end, b'b', 255);
     let l = numbers(line, f.end, b'l', 65535);
-    let first = bytes(f);
+    let first = bytes(&f);
     let links = l.values;
     let i = f.size;
     let j = l.size;
     lent(
+        out,
         job,
         dimension,
         s,
@@ -186,13 +194,16 @@ fn run(job: u8, line: &[u8]) {
 }
 
 // Prints a line's title and runs its case.
-pub(crate) fn case(line: &[u8]) {
-    let colon = scan::find(line, 0, line.len(), b':');
+pub(crate) fn case(out: Stdout, line: &[u8]) {
+    let colon = line
+        .iter()
+        .position(|byte| *byte == b':')
+        .unwrap_or(line.len());
     if line.len() - colon < 3 {
-        say::say(line);
-        return say::say(b": malformed\n");
+        say::say(out, line);
+        return say::say(out, b": malformed\n");
     }
-    say::say(&line[0..colon + 2]);
-    run(line[colon + 2], &line[colon + 3..]);
-    say::say(b"\n");
+    say::say(out, &line[0..colon + 2]);
+    run(out, line[colon + 2], &line[colon + 3..]);
+    say::say(out, b"\n");
 }

@@ -28,8 +28,7 @@ mod say;
 
 ghost use Rattle.std.specs.Prelude.{◌≡◌, length};
 
-use bytes::scan;
-use libc::STDIN_FILENO;
+use std::io::Stdout;
 
 // One byte more than the cases may have.
 const ROOM: usize = 131073;
@@ -42,28 +41,26 @@ fn room() -> [u8; ROOM]
 }
 
 // Runs the case of each line.
-fn cases(text: &[u8]) {
-    let mut at: usize = 0;
-    while at < text.len() {
-        let end = scan::find(text, at, text.len(), b'\n');
-        given::case(&text[at..end]);
-        if end == text.len() {
-            return;
-        }
-        at = end + 1;
+fn cases(out: Stdout, text: &[u8]) {
+    for line in text.split_inclusive(|byte| *byte == b'\n') {
+        given::case(out, line.strip_suffix(b"\n").unwrap_or(line));
     }
 }
 
 // Reads all cases, then runs them.
-fn main() {
+fn main(rt: HostRuntime) {
+    let out = rt.stdout();
     let mut text = room();
-    let input = program::read_all(STDIN_FILENO, &mut text);
+    let input = program::read_all(&mut rt.stdin(), &mut text);
     if input.failed {
-        return say::say(b"cases_run: standard input can't be read\n");
+        return say::say(out, b"cases_run: standard input can't be read\n");
     }
     let count = input.count;
     if count == ROOM {
-        return say::say(b"cases_run: standard input is longer than 131072 bytes\n");
+        return say::say(
+            out,
+            b"cases_run: standard input is longer than 131072 bytes\n",
+        );
     }
-    cases(&text[..count]);
+    cases(out, &text[..count]);
 }

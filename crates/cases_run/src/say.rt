@@ -1,136 +1,126 @@
 // Printing on standard output: what the jobs answer, and what they leave.
-use bytes::scan;
 use journey::Trip;
-use libc::STDOUT_FILENO;
 use record::Opened;
 use routing::{Decision, Kind, Offer, Step};
 use status_log::Refreshed;
+use std::io::Stdout;
 use vectors::Filled;
 
 // What lent memory holds before a job.
 pub(crate) const LENT: u16 = 99;
 
-// Prints a text.
-pub(crate) fn say(text: &[u8]) {
-    io::write_all(STDOUT_FILENO, text);
+// Prints a text. Where standard output can't be written, the answers that are missing tell it.
+pub(crate) fn say(out: Stdout, text: &[u8]) {
+    let _ = out.write_all(text);
 }
 
 // Prints a text and a number.
-pub(crate) fn number(text: &[u8], value: u64) {
-    say(text);
-    io::print_decimal(STDOUT_FILENO, value);
+pub(crate) fn number(out: Stdout, text: &[u8], value: u64) {
+    say(out, text);
+    let _ = out.print(value);
 }
 
 // Prints a refusal.
-fn refused(by: u32) {
-    number(b"refused ", by as u64);
+fn refused(out: Stdout, by: u32) {
+    number(out, b"refused ", by as u64);
 }
 
 // Prints what Fill answers.
-pub(crate) fn filled(answer: Filled) {
+pub(crate) fn filled(out: Stdout, answer: Filled) {
     match answer {
-        Filled::Done => say(b"done"),
-        Filled::Refused(by) => refused(by),
+        Filled::Done => say(out, b"done"),
+        Filled::Refused(by) => refused(out, by),
     }
 }
 
 // Prints a mask and the hops.
-fn offer(kind: &[u8], offered: Offer) {
-    say(kind);
-    number(b", mask ", offered.mask as u64);
-    number(b", hops ", offered.hops as u64);
+fn offer(out: Stdout, kind: &[u8], offered: Offer) {
+    say(out, kind);
+    number(out, b", mask ", offered.mask as u64);
+    number(out, b", hops ", offered.hops as u64);
 }
 
 // Prints how a source is accepted.
-fn kind(accepted: Kind) {
+fn kind(out: Stdout, accepted: Kind) {
     match accepted {
-        Kind::Home => say(b"home"),
-        Kind::Assured(offered) => offer(b"assured", offered),
-        Kind::Lent(offered) => offer(b"lent", offered),
-        Kind::Detour(offered) => offer(b"detour", offered),
+        Kind::Home => say(out, b"home"),
+        Kind::Assured(offered) => offer(out, b"assured", offered),
+        Kind::Lent(offered) => offer(out, b"lent", offered),
+        Kind::Detour(offered) => offer(out, b"detour", offered),
     }
 }
 
 // Prints what Decide answers.
-pub(crate) fn decided(answer: Decision) {
+pub(crate) fn decided(out: Stdout, answer: Decision) {
     match answer {
-        Decision::Accepted(accepted) => kind(accepted),
-        Decision::Refused(by) => refused(by),
+        Decision::Accepted(accepted) => kind(out, accepted),
+        Decision::Refused(by) => refused(out, by),
     }
 }
 
 // Prints what Hop answers.
-pub(crate) fn hopped(answer: Step) {
+pub(crate) fn hopped(out: Stdout, answer: Step) {
     match answer {
-        Step::Arrived => say(b"arrived"),
-        Step::Offered(mask) => number(b"mask ", mask as u64),
-        Step::Refused(by) => refused(by),
+        Step::Arrived => say(out, b"arrived"),
+        Step::Offered(mask) => number(out, b"mask ", mask as u64),
+        Step::Refused(by) => refused(out, by),
     }
 }
 
 // Prints what Journey answers.
-pub(crate) fn made(answer: Trip) {
+pub(crate) fn made(out: Stdout, answer: Trip) {
     match answer {
         Trip::Arrived(accepted, hops) => {
-            kind(accepted);
-            number(b", came by ", hops as u64);
+            kind(out, accepted);
+            number(out, b", came by ", hops as u64);
         },
-        Trip::Refused(by) => refused(by),
+        Trip::Refused(by) => refused(out, by),
     }
 }
 
 // Prints what Open answers.
-pub(crate) fn opened(answer: Opened) {
+pub(crate) fn opened(out: Stdout, answer: Opened) {
     match answer {
-        Opened::Cube(n) => number(b"cube ", n as u64),
-        Opened::Refused(by) => refused(by),
+        Opened::Cube(n) => number(out, b"cube ", n as u64),
+        Opened::Refused(by) => refused(out, by),
     }
 }
 
 // Prints what Refresh or Update answers.
-pub(crate) fn refreshed(answer: Refreshed) {
+pub(crate) fn refreshed(out: Stdout, answer: Refreshed) {
     match answer {
-        Refreshed::Done(skipped) => number(b"skipped ", skipped as u64),
-        Refreshed::Refused(by) => refused(by),
+        Refreshed::Done(skipped) => number(out, b"skipped ", skipped as u64),
+        Refreshed::Refused(by) => refused(out, by),
     }
 }
 
 // Whether every place holds 99.
 fn untouched(values: &[u16]) -> bool {
-    let mut i: usize = 0;
-    while i < values.len() {
-        if values[i] != LENT {
-            return false;
-        }
-        i += 1;
-    }
-    true
+    values.iter().all(|value| *value == LENT)
 }
 
 // Prints a word after a space.
-fn word(value: u16) {
-    number(b" ", value as u64);
+fn word(out: Stdout, value: u16) {
+    number(out, b" ", value as u64);
 }
 
 // Prints words up to a place, and that place.
-fn words(values: &[u16], last: usize) {
-    let mut i: usize = 0;
-    while i < values.len() {
+fn words(out: Stdout, values: &[u16], last: usize) {
+    for (i, value) in values.iter().enumerate() {
         if last < i {
             return;
         }
-        word(values[i]);
-        i += 1;
+        word(out, *value);
     }
 }
 
 // Prints lent words after a job, and the place behind them.
-fn left(name: &[u8], values: &[u16; 8192], size: usize) {
-    say(name);
+fn left(out: Stdout, name: &[u8], values: &[u16; 8192], size: usize) {
+    say(out, name);
     if untouched(values) {
-        return say(b" unchanged");
+        return say(out, b" unchanged");
     }
-    words(values, size);
+    words(out, values, size);
 }
 
 // A byte as a word.
@@ -141,16 +131,15 @@ fn widened(byte: u8) -> u16 {
 // Bytes as words.
 fn wide(bytes: &[u8; 8192]) -> [u16; 8192] {
     let mut words = [LENT; 8192];
-    let mut i: usize = 0;
-    while i < 8192 {
+    for i in 0..8192 {
         words[i] = widened(bytes[i]);
-        i += 1;
     }
     words
 }
 
 // Prints the memory that a job was lent.
 pub(crate) fn memory(
+    out: Stdout,
     job: u8,
     vectors: &[u16; 8192],
     i: usize,
@@ -160,30 +149,24 @@ pub(crate) fn memory(
     k: usize,
 ) {
     match job {
-        b'f' => left(b", vectors", vectors, i),
+        b'f' => left(out, b", vectors", vectors, i),
         b'j' => {
-            left(b", vectors", vectors, i);
-            left(b", path", path, k);
+            left(out, b", vectors", vectors, i);
+            left(out, b", path", path, k);
         },
         b'o' => {
-            left(b", status", &wide(more), j);
-            left(b", links", vectors, i);
+            left(out, b", status", &wide(more), j);
+            left(out, b", links", vectors, i);
         },
-        b'r' | b'u' => left(b", status", &wide(more), j),
+        b'r' | b'u' => left(out, b", status", &wide(more), j),
         _ => {},
     }
 }
 
 // Prints a text on one line, | for each line's end.
-pub(crate) fn barred(text: &[u8]) {
-    let mut at: usize = 0;
-    while at < text.len() {
-        let end = scan::find(text, at, text.len(), b'\n');
-        say(&text[at..end]);
-        say(b"|");
-        if end == text.len() {
-            return;
-        }
-        at = end + 1;
+pub(crate) fn barred(out: Stdout, text: &[u8]) {
+    for line in text.split_inclusive(|byte| *byte == b'\n') {
+        say(out, line.strip_suffix(b"\n").unwrap_or(line));
+        say(out, b"|");
     }
 }

@@ -3,11 +3,21 @@
 
 ghost use Rattle.std.specs.Prelude.{◌≤◌, length};
 
-use libc::{STDIN_FILENO, STDOUT_FILENO};
 use program::{read_all, say, say_with};
 use record::{Opened, word_at};
 use report::Class;
 use status_log::{Refreshed, Sweep};
+use std::env::{Env, FillError};
+use std::fs::File;
+use std::io::{Stderr, Write};
+use std::os::fd::AsRawFd;
+use std::{io, str};
+
+// Room for an argument. A path of this length or more can't be opened.
+const ROOM: usize = 4096;
+
+// What std puts after the system's words for an error, before the error's number.
+const NUMBERED: &str = " (os error ";
 
 // How the reading of a log stands: the records read, those of them skipped, whether there is more to read, and whether all was read.
 #[derive(Clone, Copy)]
@@ -50,9 +60,10 @@ fn first_refused(part: &[u8], n: u32) -> usize
 }
 
 // Says what is wrong with a log's record that is refused by 11.
-fn malformed(row: &[u8], which: u64) {
+fn malformed(err: Stderr, row: &[u8], which: u64) {
     if row.len() < 8 {
         say_with(
+            err,
             b"the log ends within its record #: # of 8 bytes came\n",
             which,
             row.len() as u64,
@@ -61,6 +72,7 @@ fn malformed(row: &[u8], which: u64) {
         return;
     }
     say_with(
+        err,
         b"the log's record # has length # and kind #, and a status record has 6 and 2\n",
         which,
         word_at(row, 0) as u64,
@@ -69,20 +81,21 @@ fn malformed(row: &[u8], which: u64) {
 }
 
 // Says why a part of a log is refused, and in which record, after so many records before the part.
-fn refused(number: u32, before: usize, part: &[u8], n: u32) {
+fn refused(err: Stderr, number: u32, before: usize, part: &[u8], n: u32) {
     let at = first_refused(part, n);
     let row = &part[at..];
     let which = both(before, at / 8 + 1) as u64;
-    say_with(b"refresh: refused #: ", number as u64, 0, 0);
+    say_with(err, b"refresh: refused #: ", number as u64, 0, 0);
     match number {
-        11 => malformed(row, which),
+        11 => malformed(err, row, which),
         12 => say_with(
+            err,
             b"the log's record # names node #, which a cabinet of # boards lacks\n",
             which,
             word_at(row, 6) as u64,
             program::boards(n) as u64,
         ),
-        _ => say(b"the log is refused\n"),
+        _ => say(err, b"the log is refused\n"),
     }
 }
 
@@ -98,7 +111,7 @@ impl Reading {
     }
 
     // After one more part: what was answered to it, and whether it was the last.
-    fn after(self, answer: Refreshed, part: &[u8], n: u32, last: bool) -> Reading {
+    fn after(self, err: Stderr, answer: Refreshed, part: &[u8], n: u32, last: bool) -> Reading {
         match answer {
             Refreshed::Done(skipped) => Reading {
                 records: both(self.records, part.len() / 8),
@@ -107,43 +120,48 @@ impl Reading {
                 whole: last,
             },
             Refreshed::Refused(number) => {
-                refused(number, self.records, part, n);
+                refused(err, number, self.records, part, n);
                 Reading::failed()
             },
         }
     }
 
     // Reads one more part of whole records, unless it is the last, and lets it speak.
-    fn part(self, fd: i32, n: u32, sweep: u16, status: &mut [u8], room: &mut [u8]) -> Reading {
-        let input = read_all(fd, room);
+    fn part(
+        self,
+        err: Stderr,
+        log: &mut File,
+        n: u32,
+        sweep: u16,
+        status: &mut [u8],
+        room: &mut [u8],
+    ) -> Reading {
+        let input = read_all(log, room);
         if input.failed {
-            say(b"refresh: the log can't be read\n");
+            say(err, b"refresh: the log can't be read\n");
             return Reading::failed();
         }
         let count = input.count;
         let last = count < room.len();
         let answer = status_log::update(n, sweep, &room[..count], status);
-        self.after(answer, &room[..count], n, last)
+        self.after(err, answer, &room[..count], n, last)
     }
 }
 
 // Reads a log to its end, 65,536 bytes at a time. The turns only bound the loop: no log uses them up.
-fn read_log(fd: i32, n: u32, sweep: u16, status: &mut [u8]) -> Reading {
-    let mut space = io::large_buffer();
-    let room: &mut [u8] = &mut space;
+fn read_log(err: Stderr, log: &mut File, n: u32, sweep: u16, status: &mut [u8]) -> Reading {
+    let mut room = [0u8; 65536];
     let mut reading = Reading {
         records: 0,
         skipped: 0,
         more: true,
         whole: false,
     };
-    let mut turns = u64::MAX;
-    while turns > 0 {
+    for _ in 0..u64::MAX {
         if !reading.more {
             return reading;
         }
-        reading = reading.part(fd, n, sweep, status, room);
-        turns -= 1;
+        reading = reading.part(err, log, n, sweep, status, &mut room);
     }
     reading
 }
@@ -180,18 +198,17 @@ fn counted(status: &[u8]) -> Tally {
         working: 0,
         late: 0,
     };
-    let mut a: usize = 0;
-    while a < status.len() {
-        let class = report::class_of(status[a]);
+    for byte in status {
+        let class = report::class_of(*byte);
         counts = counts.with(class);
-        a += 1;
     }
     counts
 }
 
 // Says what was read and how the boards stand, and warns where none works.
-fn tell(reading: Reading, sweep: u16, status: &[u8]) {
+fn tell(err: Stderr, reading: Reading, sweep: u16, status: &[u8]) {
     say_with(
+        err,
         b"refresh: records read: #, of these from the future and skipped: #\n",
         reading.records as u64,
         reading.skipped as u64,
@@ -199,6 +216,7 @@ fn tell(reading: Reading, sweep: u16, status: &[u8]) {
     );
     let boards = counted(status);
     say_with(
+        err,
         b"refresh: boards silent: #, working: #, late: #\n",
         boards.silent as u64,
         boards.working as u64,
@@ -206,6 +224,7 @@ fn tell(reading: Reading, sweep: u16, status: &[u8]) {
     );
     if boards.working == 0 {
         say_with(
+            err,
             b"refresh: warning: no board works at sweep #; is that the present sweep?\n",
             sweep as u64,
             0,
@@ -215,91 +234,120 @@ fn tell(reading: Reading, sweep: u16, status: &[u8]) {
 }
 
 // Prints the record with the log's status bytes in place of its own, if all of the log was read.
-fn print(reading: Reading, sweep: u16, bytes: &mut [u8], status: &[u8]) {
+fn print(rt: &HostRuntime, reading: Reading, sweep: u16, bytes: &mut [u8], status: &[u8]) {
     if !reading.whole {
         return;
     }
     record::restate(bytes, status);
-    if !io::write_all(STDOUT_FILENO, bytes) {
-        say(b"refresh: standard output can't be written\n");
+    let err = rt.stderr();
+    if rt.stdout().write_all(bytes).is_err() {
+        say(err, b"refresh: standard output can't be written\n");
         return;
     }
-    tell(reading, sweep, status);
+    tell(err, reading, sweep, status);
 }
 
 // Goes on if Open reads the record: no board is heard before the log speaks.
-fn with_record(opened: Opened, fd: i32, sweep: u16, bytes: &mut [u8]) {
+fn with_record(rt: &HostRuntime, opened: Opened, log: &mut File, sweep: u16, bytes: &mut [u8]) {
     match opened {
         Opened::Cube(n) => {
             let mut space = [0u8; 1024];
             let status: &mut [u8] = &mut space[0..program::boards(n)];
-            let reading = read_log(fd, n, sweep, status);
-            print(reading, sweep, bytes, status);
+            let reading = read_log(rt.stderr(), log, n, sweep, status);
+            print(rt, reading, sweep, bytes, status);
         },
-        Opened::Refused(number) => program::refused(b"refresh", bytes, number),
+        Opened::Refused(number) => program::refused(rt.stderr(), b"refresh", bytes, number),
     }
 }
 
 // Reads the record on standard input, at most one byte more than a record may have.
-fn with_log(fd: i32, sweep: u16) {
+fn with_log(rt: &HostRuntime, log: &mut File, sweep: u16) {
+    let err = rt.stderr();
     let mut bytes = [0u8; 4097];
-    let input = read_all(STDIN_FILENO, &mut bytes);
+    let input = read_all(&mut rt.stdin(), &mut bytes);
     if input.failed {
-        say(b"refresh: standard input can't be read\n");
+        say(err, b"refresh: standard input can't be read\n");
         return;
     }
     let count = input.count;
     if 4096 < count {
-        program::refused(b"refresh", &bytes, 10);
+        program::refused(err, b"refresh", &bytes, 10);
         return;
     }
     let mut status = [0u8; 1024];
     let mut links = [0u16; 1024];
     let opened = record::open(&bytes[..count], &mut status, &mut links);
-    with_record(opened, fd, sweep, &mut bytes[..count]);
+    with_record(rt, opened, log, sweep, &mut bytes[..count]);
 }
 
-// Opens the log that the second argument names. Where standard input is closed, the log gets its number.
-fn with_sweep(sweep: u16) {
-    let mut name = io::buffer();
-    let length = os::arg(2, &mut name);
-    if os::errno() != 0 {
-        say(b"refresh: the log's file name is too long\n");
+// Says why the log can't be opened, in the system's words.
+fn not_opened(err: Stderr, name: &[u8], error: io::Error) {
+    let mut room = [0u8; 128];
+    let mut free: &mut [u8] = &mut room;
+    let _ = write!(free, "{error}");
+    let length = 128usize.saturating_sub(free.len());
+    let text = str::from_utf8(&room[..length]).unwrap_or("");
+    let words = text.split_once(NUMBERED).map_or(text, |parts| parts.0);
+    say(err, b"refresh: the log ");
+    say(err, name);
+    say(err, b": ");
+    say(err, words.as_bytes());
+    say(err, b"\n");
+}
+
+// Opens the log of this name. Where standard input is closed, the log gets its number.
+fn with_name(rt: &HostRuntime, name: &[u8], sweep: u16) {
+    let err = rt.stderr();
+    let Ok(path) = str::from_utf8(name) else {
+        say(err, b"refresh: the log's file name is not UTF-8\n");
         return;
+    };
+    match File::open(rt, path) {
+        Err(error) => not_opened(err, name, error),
+        Ok(log) if log.as_raw_fd() == rt.stdin().as_raw_fd() => {
+            say(err, b"refresh: standard input can't be read\n");
+        },
+        Ok(mut log) => with_log(rt, &mut log, sweep),
     }
-    if length == 0 {
-        say(b"refresh: the log's file name is empty\n");
-        return;
+}
+
+// Takes the log's file name from the second argument.
+fn with_sweep(rt: &HostRuntime, sweep: u16) {
+    let err = rt.stderr();
+    let mut name = [0u8; ROOM];
+    match rt.arg(2, &mut name) {
+        Err(_) => say(err, b"refresh: the log's file name is too long\n"),
+        Ok(0) => say(err, b"refresh: the log's file name is empty\n"),
+        Ok(length) => with_name(rt, &name[..length], sweep),
     }
-    let fd = os::open_read(&name[..length]);
-    if fd < 0 {
-        say(b"refresh: the log ");
-        os::fail(&name[..length]);
-        return;
-    }
-    if fd == STDIN_FILENO {
-        say(b"refresh: standard input can't be read\n");
-        return;
-    }
-    with_log(fd, sweep);
-    libc::close(fd);
 }
 
 // Goes on if the first argument names a sweep.
-fn by_sweep(sweep: Sweep) {
+fn by_sweep(rt: &HostRuntime, sweep: Sweep) {
     match sweep {
-        Sweep::Number(number) => with_sweep(number),
-        Sweep::NoNumber => say(b"refresh: the present sweep is a number from 0 to 65535\n"),
+        Sweep::Number(number) => with_sweep(rt, number),
+        Sweep::NoNumber => say(
+            rt.stderr(),
+            b"refresh: the present sweep is a number from 0 to 65535\n",
+        ),
     }
 }
 
+// Whether there is an argument of this number.
+fn is_given(rt: &HostRuntime, number: usize) -> bool {
+    !matches!(rt.arg(number, &mut []), Err(FillError::NotPresent))
+}
+
 // Takes the present sweep and the log's file name.
-fn main() {
-    if os::arg_count() != 3 {
-        say(b"refresh: give the present sweep and the log's file name\n");
+fn main(rt: HostRuntime) {
+    if !is_given(&rt, 2) || is_given(&rt, 3) {
+        say(
+            rt.stderr(),
+            b"refresh: give the present sweep and the log's file name\n",
+        );
         return;
     }
-    let mut text = io::buffer();
-    let length = os::arg(1, &mut text);
-    by_sweep(status_log::sweep_of(&text[..length]));
+    let mut text = [0u8; ROOM];
+    let length = rt.arg(1, &mut text).unwrap_or(0);
+    by_sweep(&rt, status_log::sweep_of(&text[..length]));
 }
