@@ -1,7 +1,8 @@
 // What programs over records share: reading all of an input, and saying on standard error what is wrong.
 #![tactic(auto)]
 
-ghost use Rattle.std.specs.Prelude.{◌≡◌, ◌^◌, ◌≤◌, min, length};
+ghost use Rattle.std.specs.Prelude.{◌≡◌, ◌^◌, ◌<◌, ◌≤◌, min, length, take, false};
+ghost use Rattle.std.specs.Io.KnownBytes.{Consumes, IsAtEnd};
 ghost use Rattle.io.specs.Counts.{IsPrefixLen};
 
 use record::word_at;
@@ -15,9 +16,11 @@ pub struct Input {
 }
 
 // Reads until an input ends, which is a read of no bytes, until a read fails, or until the room is full.
-// A room of one byte more than is allowed is full just where too much came.
-pub fn read_all(from: &mut impl Read, room: &mut [u8]) -> Input
-    ensures { IsPrefixLen result.count room.new }
+// A room of one byte more than is allowed is full just where too much came. What the reader gave stands in the room, in its order.
+pub fn read_all<R: Read>(from: &mut R, room: &mut [u8]) -> Input
+    ensures count { IsPrefixLen result.count room.new }
+    ensures bytes { Consumes (R.remaining from.old) (R.remaining from.new) (take result.count room.new) }
+    ensures end { result.failed ≡ false → result.count < length room.new → IsAtEnd (R.remaining from.new) }
 {
     let mut at = 0;
     while at < room.len() {

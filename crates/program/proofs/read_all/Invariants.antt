@@ -1,9 +1,10 @@
--- `program::read_all` ends: what is left of the room shrinks. Each read's bytes fall within it.
-use Rattle.std.proofs.Common.{length, ◌-◌, ◌≤◌}
+-- `program::read_all` ends: what is left of the room shrinks. What stands in the room so far is what the reader gave.
+use Rattle.std.proofs.Common.{length, ◌-◌, ◌≤◌, take}
+use Rattle.std.specs.Io.KnownBytes.{Consumes}
 use Rattle.program.proofs.read_all.Given as goal
 
 abbrev pub invariant-loop-at : goal.invariant-loop-at
-invariant-loop-at g l = l.at ≤ length l.room
+invariant-loop-at g l = (l.at ≤ length l.room) × Consumes (g.R.Read.remaining l.initial.from) (g.R.Read.remaining l.from) (take l.at l.room)
 
 abbrev pub decreases-loop-at : goal.decreases-loop-at
 decreases-loop-at g l = length l.room - l.at
