@@ -285,7 +285,8 @@ fn not_opened(err: Stderr, name: &[u8], error: io::Error) {
     let mut room = [0u8; 128];
     let mut free: &mut [u8] = &mut room;
     let _ = write!(free, "{error}");
-    let length = 128usize.saturating_sub(free.len());
+    let left = free.len();
+    let length = room.len().saturating_sub(left);
     let text = str::from_utf8(&room[..length]).unwrap_or("");
     let words = text.split_once(NUMBERED).map_or(text, |parts| parts.0);
     say(err, b"refresh: the log ");
