@@ -6,17 +6,13 @@ use std::path::{Path, PathBuf};
 use std::process::{Command, Output};
 use std::sync::Once;
 
-/// The folder for all that is made here.
-fn folder() -> PathBuf {
-    Path::new(env!("CARGO_TARGET_TMPDIR")).join("build_script")
-}
-
 /// The build script, compiled once.
 fn script() -> PathBuf {
     static COMPILED: Once = Once::new();
-    let script = folder().join("build");
+    let folder = Path::new(env!("CARGO_TARGET_TMPDIR")).join("build_script");
+    let script = folder.join("build");
     COMPILED.call_once(|| {
-        fs::create_dir_all(folder()).unwrap();
+        fs::create_dir_all(&folder).unwrap();
         let rustc = std::env::var_os("RUSTC").unwrap_or("rustc".into());
         let source = Path::new(env!("CARGO_MANIFEST_DIR")).join("build.rs");
         let compiled = Command::new(rustc).args(["--edition=2021", "-o"]).arg(&script).arg(source).status();
@@ -25,14 +21,21 @@ fn script() -> PathBuf {
     script
 }
 
-/// A repository with one source and no archive.
+/// A repository with one source and no archive, in a folder that goes with it. It stands outside of this repository, where
+/// `rt ci` refuses sources and a crates.txt in any place but their own.
 struct Repository {
     root: PathBuf,
 }
 
+impl Drop for Repository {
+    fn drop(&mut self) {
+        let _ = fs::remove_dir_all(&self.root);
+    }
+}
+
 impl Repository {
     fn new(name: &str) -> Repository {
-        let root = folder().join(name);
+        let root = std::env::temp_dir().join(format!("deruvain-{}-{name}", std::process::id()));
         let _ = fs::remove_dir_all(&root);
         for folder in ["crates/deruvain/src", "bindings/rust", "out", "path"] {
             fs::create_dir_all(root.join(folder)).unwrap();
