@@ -49,7 +49,7 @@ def call(arguments, script=os.path.join(ROOT, "deruvain"), **how):
     if "input" in how:
         del how["stdin"]
     done = subprocess.run([script] + arguments, **how)
-    return done.returncode, done.stdout or b"", (done.stderr or b"").decode()
+    return done.returncode, done.stdout or b"", os.fsdecode(done.stderr or b"")
 
 
 def expect(name, got, status, out, err):
@@ -181,7 +181,7 @@ def unread():
     fails("a missing log", ["refresh", "2", "none"], 3, "refresh: the log none: No such file or directory", input=record)
     fails("a folder for a log", ["refresh", "2", WORK], 3, "refresh: the log can't be read", input=record)
     fails("a long name", ["refresh", "2", "x" * 5000], 3, "refresh: the log's file name is too long", input=record)
-    fails("a name that is not UTF-8", ["refresh", "2", b"\xff.log"], 3, "refresh: the log's file name is not UTF-8", input=record)
+    fails("a name that is not UTF-8", ["refresh", "2", b"\xff.log"], 3, "refresh: the log %s: its name is not UTF-8" % os.fsdecode(b"\xff.log"), input=record)
     for command in (["listing"], ["listing", "-"], ["refresh", "2", log]):
         line = command[0] + ": standard input can't be read"
         fails("%s with a closed input" % command, command, 3, line, preexec_fn=lambda: os.close(0))
@@ -369,7 +369,7 @@ def builds():
     fails("no rt and no program", ["listing"], 3, "listing: the program listing is not built, and " + absent, script=script, env=lacking)
     fails("check with no rt", ["check"], 3, "check: " + absent, script=script, env=lacking)
     building = "listing: proving and building the program listing, about %s\n"
-    expect("the first build", call(["listing"], script=script, env=having), 0, LISTED, building % "50 seconds")
+    expect("the first build", call(["listing"], script=script, env=having), 0, LISTED, building % "40 seconds")
     expect("no build", call(["listing"], script=script, env=having), 0, LISTED, "")
     expect("a program where there is no rt", call(["listing"], script=script, env=lacking), 0, LISTED, "")
     older(program)
@@ -406,7 +406,7 @@ def turns():
     root, script = repository("stopped")
     write(os.path.join(root, "slow"), "60")
     building = start([script, "listing"], env=with_rt)
-    line = "listing: proving and building the program listing, about 50 seconds\n"
+    line = "listing: proving and building the program listing, about 40 seconds\n"
     expect("a signal within a build", stopped(building, b"sleep 60", signal.SIGTERM), -signal.SIGTERM, b"", line)
 
 

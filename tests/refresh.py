@@ -44,7 +44,7 @@ def limited():
 
 def run(arguments, given=STALE, **more):
     done = subprocess.run([PROGRAM] + arguments, input=given, stdout=subprocess.PIPE, stderr=subprocess.PIPE, **more)
-    return done.stdout, done.stderr.decode()
+    return done.stdout, os.fsdecode(done.stderr)
 
 
 def expect(name, got, out, err):
@@ -166,7 +166,7 @@ def arguments():
     says("a folder for a log", ["2", WORK.name], "refresh: the log can't be read")
     says("an empty name", ["2", ""], "refresh: the log's file name is empty")
     says("a long name", ["2", "x" * 5000], "refresh: the log's file name is too long")
-    says("a name that is not UTF-8", ["2", b"\xff.log"], "refresh: the log's file name is not UTF-8")
+    says("a name that is not UTF-8", ["2", b"\xff.log"], "refresh: the log %s: its name is not UTF-8" % os.fsdecode(b"\xff.log"))
 
 
 def failures():

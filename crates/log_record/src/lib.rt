@@ -1,7 +1,7 @@
 // One record of the status log: its refusal, its age, and the status byte that it speaks for.
 #![tactic(auto)]
 
-ghost use Rattle.std.specs.Prelude.{◌≡◌, leb, [], ◌∷◌, if◌then◌else◌, nat_le};
+ghost use Rattle.std.specs.Prelude.{◌≡◌, cond, leb, [], ◌∷◌};
 ghost use Rattle.cube.specs.Count.{one};
 ghost use Rattle.cube.specs.Reply.{refusal};
 ghost use Rattle.log_rules.specs.Log.{age, age_byte};
@@ -22,14 +22,14 @@ pub fn age(row: &[u8], sweep: u16) -> u16
 
 // 1 for an age from the future, else 0.
 pub fn skip(age: u16) -> usize
-    ensures { result ≡ one (nat_le 32768 age) }
+    ensures { result ≡ one (leb 32768 age) }
 {
     (age / 32768) as usize
 }
 
 // The status byte of an age, 0 for one from the future.
 pub fn byte_of(age: u16) -> u8
-    ensures { result ≡ (if leb 32768 age then 0 else age_byte age) }
+    ensures { result ≡ cond (leb 32768 age) 0 (age_byte age) }
 {
     if 32768 <= age {
         return 0;

@@ -38,7 +38,11 @@ chain bytes status links nodes sound h count look =
     rw (le-ltb (length bytes) 5 h)
     (later (eqb (length_in bytes) (length bytes - 2)) 10 _ _ (λ total.
     later (eqb (kind_in bytes) 1) 10 _ _ (λ kind.
-    later (dimension (n_in bytes)) 1 _ _ (λ dim.
+    later (dimension (n_in bytes)) 1 _
+    (cond (not (eqb (length_in bytes) (3 + 3 * 2 ^ n_in bytes))) 10
+    (cond (not (room bytes status links)) 2
+    (cond (not (narrow (n_in bytes) (links_in bytes))) 3 0)))
+    (λ dim.
     let e = count (dimension_range (n_in bytes) dim).1 in
     rw e
     (later (eqb (length_in bytes) (3 + 3 * 2 ^ n_in bytes)) 10 _ _ (λ size.

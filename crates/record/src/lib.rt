@@ -59,8 +59,8 @@ fn link(bytes: &[u8], nodes: usize, a: usize) -> u16
 // Whether every link word of a record of that many nodes is below their number; a record of another length is not looked at.
 fn narrow_links(bytes: &[u8], nodes: usize) -> bool
     requires { nodes < 65536 }
-    ensures { let bytes = bytes.entry.now in
-        (nodes ≡ 2 ^ n_in bytes → length bytes ≡ 5 + 3 * nodes → result ≡ narrow (n_in bytes) (links_in bytes)) }
+    ensures { let given = bytes.now in
+        (nodes ≡ 2 ^ n_in given → length given ≡ 5 + 3 * nodes → result ≡ narrow (n_in given) (links_in given)) }
 {
     if bytes.len() != 5 + 3 * nodes {
         return true;

@@ -280,8 +280,17 @@ fn with_log(rt: &HostRuntime, log: &mut File, sweep: u16) {
     with_record(rt, opened, log, sweep, &mut bytes[..count]);
 }
 
+// Says that the log of this name can't be opened, and why.
+fn not_opened(err: Stderr, name: &[u8], why: &[u8]) {
+    say(err, b"refresh: the log ");
+    say(err, name);
+    say(err, b": ");
+    say(err, why);
+    say(err, b"\n");
+}
+
 // Says why the log can't be opened, in the system's words.
-fn not_opened(err: Stderr, name: &[u8], error: io::Error) {
+fn by_system(err: Stderr, name: &[u8], error: io::Error) {
     let mut room = [0u8; 128];
     let mut free: &mut [u8] = &mut room;
     let _ = write!(free, "{error}");
@@ -289,22 +298,17 @@ fn not_opened(err: Stderr, name: &[u8], error: io::Error) {
     let length = room.len().saturating_sub(left);
     let text = str::from_utf8(&room[..length]).unwrap_or("");
     let words = text.split_once(NUMBERED).map_or(text, |parts| parts.0);
-    say(err, b"refresh: the log ");
-    say(err, name);
-    say(err, b": ");
-    say(err, words.as_bytes());
-    say(err, b"\n");
+    not_opened(err, name, words.as_bytes());
 }
 
 // Opens the log of this name. Where standard input is closed, the log gets its number.
 fn with_name(rt: &HostRuntime, name: &[u8], sweep: u16) {
     let err = rt.stderr();
     let Ok(path) = str::from_utf8(name) else {
-        say(err, b"refresh: the log's file name is not UTF-8\n");
-        return;
+        return not_opened(err, name, b"its name is not UTF-8");
     };
     match File::open(rt, path) {
-        Err(error) => not_opened(err, name, error),
+        Err(error) => by_system(err, name, error),
         Ok(log) if log.as_raw_fd() == rt.stdin().as_raw_fd() => {
             say(err, b"refresh: standard input can't be read\n");
         },
