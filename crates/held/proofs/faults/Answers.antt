@@ -1,4 +1,4 @@
--- `held::faults` meets its contract. The loop keeps that the dimensions above i are packed.
+-- `held::faults` meets its contract.
 use mathlib.Core.Path.{◌≡◌}
 use mathlib.Core.Bool.{Bool}
 use Prim.Native.Nat.{ℕ, suc, ◌-◌}

@@ -1,4 +1,4 @@
--- `held::faults` meets its contract. The loop keeps that the dimensions above i are packed.
+-- `held::faults`: the loop keeps that the dimensions above i are packed.
 use Prim.Native.Nat.{◌≤◌}
 use Rattle.cube.proofs.Count.{PackedTo}
 use Rattle.report.specs.Report.{cut}

@@ -1,4 +1,4 @@
--- `journey::onward` meets its contract. The loop keeps that the message is on its walk, and what the boards so far and those ahead come to.
+-- `journey::onward` meets its contract.
 use mathlib.Core.Path.{refl, ◌∙◌}
 use native.Mathlib.Omega.{arith}
 use Rattle.report.specs.Report.{Report, report}

@@ -1,4 +1,4 @@
--- `journey::onward` meets its contract. The loop keeps that the message is on its walk, and what the boards so far and those ahead come to.
+-- `journey::onward`: the loop keeps that the message is on its walk, and what the boards so far and those ahead come to.
 use Prim.Native.Nat.{◌-◌}
 use Rattle.report.specs.Report.{report}
 use Rattle.journey.proofs.Messages.{Under}

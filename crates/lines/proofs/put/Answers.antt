@@ -1,4 +1,4 @@
--- `lines::put` meets its contract. The loop keeps that the first i bytes of the word are put.
+-- `lines::put` meets its contract.
 use mathlib.Core.Path.{◌≡◌}
 use native.Mathlib.Omega.{arith}
 use lib.ListN.{length}

@@ -1,4 +1,4 @@
--- `lines::put` meets its contract. The loop keeps that the first i bytes of the word are put.
+-- `lines::put`: the loop keeps that the first i bytes of the word are put.
 use Prim.Native.Nat.{◌-◌, ◌≤◌}
 use lib.ListN.{length, take}
 use Rattle.lines.specs.Put.{Put}

@@ -1,4 +1,4 @@
--- `pick::rank` meets its contract. A turn strips one dimension: k turns are made and r − k are to come, r in all, or fewer where nothing is left.
+-- `pick::rank` meets its contract.
 use mathlib.Core.Path.{ap, sym, ◌∙◌}
 use Prim.Native.Nat.{◌+◌, ◌-◌}
 use native.Mathlib.Nat.{sub-zero}

@@ -1,4 +1,4 @@
--- `pick::rank` meets its contract. A turn strips one dimension: k turns are made and r − k are to come, r in all, or fewer where nothing is left.
+-- `pick::rank`: a turn strips one dimension: k turns are made and r − k are to come, r in all, or fewer where nothing is left.
 use mathlib.Core.Path.{◌≡◌}
 use Prim.Native.Nat.{◌-◌, ◌≤◌}
 use Rattle.cube.specs.Bits.{bit}

@@ -1,4 +1,4 @@
--- `record::narrow_links` meets its contract. The invariant: every word passed is below the number of nodes.
+-- `record::narrow_links` meets its contract.
 use mathlib.Core.Path.{sym}
 use borrow.Author.Rules.{rules}
 use borrow.Author.Count.{below_none, below_more}

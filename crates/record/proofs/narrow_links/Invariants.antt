@@ -1,4 +1,4 @@
--- `record::narrow_links` meets its contract. The invariant: every word passed is below the number of nodes.
+-- `record::narrow_links`: the loop keeps that every word passed is below the number of nodes.
 use Prim.Native.Nat.{ℕ, ◌+◌, ◌-◌, ◌*◌, ◌≤◌, ◌<◌}
 use Rattle.record.specs.Open.{word}
 use Rattle.record.proofs.narrow_links.Given as goal

@@ -1,4 +1,4 @@
--- `record::restate` meets its contract. The loop keeps that the first a status bytes are in place.
+-- `record::restate` meets its contract.
 use mathlib.Core.Path.{◌≡◌, refl, sym, ap, ◌∙◌}
 use mathlib.Core.List.{List}
 use Prim.Native.Nat.{ℕ, ◌+◌}

@@ -1,4 +1,4 @@
--- `record::restate` meets its contract. The loop keeps that the first a status bytes are in place.
+-- `record::restate`: the loop keeps that the first a status bytes are in place.
 use mathlib.Core.Path.{◌≡◌}
 use Prim.Native.Nat.{◌-◌, ◌≤◌}
 use lib.ListN.{length}

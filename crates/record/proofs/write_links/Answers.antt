@@ -1,4 +1,4 @@
--- `record::write_links` meets its contract. The invariant: the first a places are written.
+-- `record::write_links` meets its contract.
 use borrow.Author.Rules.{rules}
 use mathlib.Core.Path.{◌≡◌, ◌∙◌}
 use Prim.Native.Nat.{◌^◌}

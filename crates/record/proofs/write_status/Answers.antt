@@ -1,4 +1,4 @@
--- `record::write_status` meets its contract. The invariant: the first a places are written.
+-- `record::write_status` meets its contract.
 use borrow.Author.Rules.{rules}
 use mathlib.Core.Path.{◌≡◌, refl}
 use Prim.Native.Nat.{◌^◌}

@@ -1,4 +1,4 @@
--- `record::write_status` meets its contract. The invariant: the first a places are written.
+-- `record::write_status`: the loop keeps that the first a places are written.
 use mathlib.Core.Path.{◌≡◌}
 use Prim.Native.Nat.{◌-◌, ◌≤◌}
 use Rattle.cube.proofs.Table.{written}

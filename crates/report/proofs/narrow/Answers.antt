@@ -1,4 +1,4 @@
--- `report::narrow` meets its contract. The loop keeps that the words are narrow exactly if those from i on are.
+-- `report::narrow` meets its contract.
 use mathlib.Core.Path.{refl, ap, sym, ◌∙◌}
 use mathlib.Core.Bool.{Bool, ◌&&◌}
 use Prim.Native.Nat.{◌+◌}

@@ -1,4 +1,4 @@
--- `report::narrow` meets its contract. The loop keeps that the words are narrow exactly if those from i on are.
+-- `report::narrow`: the loop keeps that the words are narrow exactly if those from i on are.
 use mathlib.Core.Path.{◌≡◌}
 use Prim.Native.Nat.{◌-◌}
 use lib.ListN.{length, drop}

@@ -1,4 +1,4 @@
--- `status_log::clear` meets its contract. The loop keeps that the status bytes below a are 0.
+-- `status_log::clear` meets its contract.
 use mathlib.Core.Path.{◌≡◌, refl, ap, ◌∙◌}
 use mathlib.Core.List.{List, ◌++◌, append-nil}
 use Prim.Native.Nat.{ℕ}

@@ -1,4 +1,4 @@
--- `status_log::clear` meets its contract. The loop keeps that the status bytes below a are 0.
+-- `status_log::clear`: the loop keeps that the status bytes below a are 0.
 use mathlib.Core.Path.{◌≡◌}
 use mathlib.Core.List.{◌++◌}
 use Prim.Native.Nat.{◌-◌, ◌≤◌}

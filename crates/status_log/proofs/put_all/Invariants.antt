@@ -1,4 +1,4 @@
--- `status_log::put_all` meets its contract. The loop keeps that the bytes so far and the records still to come say what all say.
+-- `status_log::put_all`: the loop keeps that the bytes so far and the records still to come say what all say.
 use mathlib.Core.Path.{◌≡◌}
 use mathlib.Core.Bool.{true}
 use Prim.Native.Nat.{◌+◌, ◌-◌, ◌≤◌}

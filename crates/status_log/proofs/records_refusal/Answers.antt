@@ -1,4 +1,4 @@
--- `status_log::records_refusal` meets its contract. The loop keeps that the records still to come refuse as all do.
+-- `status_log::records_refusal` meets its contract.
 use mathlib.Core.Path.{refl, sym, ◌∙◌}
 use native.Mathlib.Omega.{arith}
 use Rattle.log_rules.proofs.Refusals.{refuse_at, pass_at, refuse_cut, pass_end}

@@ -1,4 +1,4 @@
--- `status_log::records_refusal` meets its contract. The loop keeps that the records still to come refuse as all do.
+-- `status_log::records_refusal`: the loop keeps that the records still to come refuse as all do.
 use mathlib.Core.Path.{◌≡◌}
 use Prim.Native.Nat.{◌-◌, ◌≤◌}
 use lib.ListN.{length, drop}

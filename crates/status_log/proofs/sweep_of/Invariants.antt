@@ -1,4 +1,4 @@
--- `status_log::sweep_of` meets its contract.
+-- `status_log::sweep_of`: what is read of the digits so far.
 use Prim.Native.Nat.{◌-◌}
 use lib.ListN.{length}
 use Rattle.status_log.proofs.Sweeps.{Read}

@@ -1,4 +1,4 @@
--- `text::put_bits` meets its contract. The loop keeps that the first k bits are put.
+-- `text::put_bits` meets its contract.
 use mathlib.Core.Path.{◌≡◌}
 use Prim.Native.Nat.{◌+◌, ◌≤◌}
 use native.Mathlib.Omega.{arith}

@@ -1,4 +1,4 @@
--- `text::put_bits` meets its contract. The loop keeps that the first k bits are put.
+-- `text::put_bits`: the loop keeps that the first k bits are put.
 use Prim.Native.Nat.{◌-◌, ◌≤◌}
 use Rattle.lines.specs.Put.{Put}
 use Rattle.text.specs.Listing.{row}

@@ -1,4 +1,4 @@
--- `text::put_lines` meets its contract. The loop keeps that the lines below a are put.
+-- `text::put_lines` meets its contract.
 use mathlib.Core.Path.{◌≡◌}
 use native.Mathlib.Omega.{arith}
 use Rattle.lines.specs.Text.{joined}

@@ -1,4 +1,4 @@
--- `text::put_lines` meets its contract. The loop keeps that the lines below a are put.
+-- `text::put_lines`: the loop keeps that the lines below a are put.
 use Prim.Native.Nat.{◌-◌, ◌≤◌}
 use Rattle.lines.specs.Text.{joined}
 use Rattle.lines.specs.Put.{Put}

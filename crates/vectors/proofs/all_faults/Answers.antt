@@ -1,4 +1,4 @@
--- `vectors::all_faults` meets its contract. The loop keeps that the masks below a are written.
+-- `vectors::all_faults` meets its contract.
 use mathlib.Core.Path.{refl, ap, ◌∙◌}
 use native.Mathlib.Omega.{arith}
 use lib.Pow.{pow_mono}

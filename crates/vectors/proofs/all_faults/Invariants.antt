@@ -1,4 +1,4 @@
--- `vectors::all_faults` meets its contract. The loop keeps that the masks below a are written.
+-- `vectors::all_faults`: the loop keeps that the masks below a are written.
 use mathlib.Core.Path.{◌≡◌}
 use Prim.Native.Nat.{◌-◌, ◌≤◌}
 use lib.ListN.{length}

@@ -1,4 +1,4 @@
--- `vectors::all_rounds` meets its contract. The loop keeps that the vectors are those after round k, and that the bytes show bit k.
+-- `vectors::all_rounds` meets its contract.
 use mathlib.Core.Path.{◌≡◌, ap, sym, ◌∙◌}
 use Prim.Native.Nat.{ℕ, ◌^◌}
 use native.Mathlib.Numerals.{add-one}

@@ -1,4 +1,4 @@
--- `vectors::all_rounds` meets its contract. The loop keeps that the vectors are those after round k, and that the bytes show bit k.
+-- `vectors::all_rounds`: the loop keeps that the vectors are those after round k, and that the bytes show bit k.
 use mathlib.Core.Path.{◌≡◌}
 use Prim.Native.Nat.{◌-◌, ◌^◌, ◌≤◌}
 use lib.ListN.{length}

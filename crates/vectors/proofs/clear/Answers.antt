@@ -1,4 +1,4 @@
--- `vectors::clear` meets its contract. The loop keeps that the vectors below a are 0.
+-- `vectors::clear` meets its contract.
 use mathlib.Core.Path.{◌≡◌, refl, ap, ◌∙◌}
 use mathlib.Core.List.{List, ◌++◌, append-nil}
 use Prim.Native.Nat.{ℕ}

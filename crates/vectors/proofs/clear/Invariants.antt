@@ -1,4 +1,4 @@
--- `vectors::clear` meets its contract. The loop keeps that the vectors below a are 0.
+-- `vectors::clear`: the loop keeps that the vectors below a are 0.
 use mathlib.Core.Path.{◌≡◌}
 use mathlib.Core.List.{◌++◌}
 use Prim.Native.Nat.{◌-◌, ◌≤◌}

@@ -1,4 +1,4 @@
--- `vectors::round` meets its contract. The loop keeps that it is in the midst of round k at board a.
+-- `vectors::round` meets its contract.
 use mathlib.Core.Path.{◌≡◌, refl, ap, ◌∙◌}
 use Prim.Native.Nat.{suc, ◌+◌, ◌*◌, ◌%◌, ◌^◌, ◌<◌}
 use native.Mathlib.Omega.{arith}

@@ -1,4 +1,4 @@
--- `vectors::round` meets its contract. The loop keeps that it is in the midst of round k at board a.
+-- `vectors::round`: the loop keeps that it is in the midst of round k at board a.
 use mathlib.Core.Path.{◌≡◌}
 use Prim.Native.Nat.{◌-◌, ◌≤◌}
 use lib.ListN.{length}

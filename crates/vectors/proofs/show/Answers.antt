@@ -1,4 +1,4 @@
--- `vectors::show` meets its contract. The loop keeps that the bytes below a show their bits.
+-- `vectors::show` meets its contract.
 use mathlib.Core.Path.{refl, ap, ◌∙◌}
 use native.Mathlib.Omega.{arith}
 use Rattle.cube.proofs.Table.{written_none, written_next, written_all}

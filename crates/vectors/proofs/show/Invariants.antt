@@ -1,4 +1,4 @@
--- `vectors::show` meets its contract. The loop keeps that the bytes below a show their bits.
+-- `vectors::show`: the loop keeps that the bytes below a show their bits.
 use mathlib.Core.Path.{◌≡◌}
 use Prim.Native.Nat.{◌-◌, ◌≤◌}
 use Rattle.cube.proofs.Table.{written}

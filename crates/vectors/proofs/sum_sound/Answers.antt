@@ -1,4 +1,4 @@
--- `vectors::sum_sound` meets its contract. The loop keeps that the sum is the count along dimensions 1 to i.
+-- `vectors::sum_sound` meets its contract.
 use mathlib.Core.Path.{◌≡◌, ap, ◌∙◌}
 use Prim.Native.Nat.{suc}
 use native.Mathlib.Omega.{arith}

@@ -1,4 +1,4 @@
--- `vectors::sum_sound` meets its contract. The loop keeps that the sum is the count along dimensions 1 to i.
+-- `vectors::sum_sound`: the loop keeps that the sum is the count along dimensions 1 to i.
 use mathlib.Core.Path.{◌≡◌}
 use Prim.Native.Nat.{◌-◌, ◌≤◌}
 use Rattle.cube.specs.Count.{count}
