@@ -29,8 +29,8 @@ fn rank(n: u32, mask: u16, r: u32) -> u32
 
 // n, or 16 where that is less: a mask has no dimension above 16.
 fn top(n: u32) -> u32
-    ensures value { result ≡ min n 16 }
-    ensures upper_bound { result ≤ 16 }
+    ensures least { result ≡ min n 16 }
+    ensures small { result ≤ 16 }
 {
     if n < 16 { n } else { 16 }
 }

@@ -80,8 +80,8 @@ pub fn say_with(err: Stderr, text: &[u8], a: u64, b: u64, c: u64) {
 
 // How many boards a cube of dimension n has; from 10 on 1,024.
 pub fn boards(n: u32) -> usize
-    ensures upper_bound { result ≤ 1024 }
-    ensures value { result ≡ 2 ^ min n 10 }
+    ensures few { result ≤ 1024 }
+    ensures power { result ≡ 2 ^ min n 10 }
 {
     if 9 < n { 1024 } else { 1 << n }
 }

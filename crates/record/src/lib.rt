@@ -41,16 +41,16 @@ pub fn word_at(bytes: &[u8], i: usize) -> u16
 
 // How many nodes a cube of dimension n has; n from 16 on is taken as n % 16.
 fn nodes_of(n: u32) -> usize
-    ensures value { result ≡ 2 ^ (n % 16) }
-    ensures upper_bound { result < 65536 }
+    ensures power { result ≡ 2 ^ (n % 16) }
+    ensures small { result < 65536 }
 {
     1 << (n % 16)
 }
 
 // The link word of node a in a record of that many nodes.
 fn link(bytes: &[u8], nodes: usize, a: usize) -> u16
-    requires bytes_len { length bytes.now ≡ 5 + 3 * nodes }
-    requires a_lt_nodes { a < nodes }
+    requires long { length bytes.now ≡ 5 + 3 * nodes }
+    requires inside { a < nodes }
     ensures { result ≡ word bytes.now (5 + nodes + 2 * a) }
 {
     word(bytes, 5 + nodes + 2 * a)
@@ -98,9 +98,9 @@ fn refusal(bytes: &[u8], status: &[u8], links: &[u16]) -> u32
 
 // Copies the status bytes of a record of that many nodes into the first places.
 fn write_status(bytes: &[u8], nodes: usize, status: &mut [u8])
-    requires nodes_value { nodes ≡ 2 ^ n_in bytes.now }
-    requires bytes_len { length bytes.now ≡ 5 + 3 * nodes }
-    requires nodes_in_bounds { nodes ≤ length status.old }
+    requires power { nodes ≡ 2 ^ n_in bytes.now }
+    requires long { length bytes.now ≡ 5 + 3 * nodes }
+    requires room { nodes ≤ length status.old }
     ensures { status.new ≡ status_in bytes.now ++ drop (2 ^ n_in bytes.now) status.old }
 {
     let mut a: usize = 0;
@@ -112,9 +112,9 @@ fn write_status(bytes: &[u8], nodes: usize, status: &mut [u8])
 
 // Copies the link words of a record of that many nodes into the first places.
 fn write_links(bytes: &[u8], nodes: usize, links: &mut [u16])
-    requires nodes_value { nodes ≡ 2 ^ n_in bytes.now }
-    requires bytes_len { length bytes.now ≡ 5 + 3 * nodes }
-    requires nodes_in_bounds { nodes ≤ length links.old }
+    requires power { nodes ≡ 2 ^ n_in bytes.now }
+    requires long { length bytes.now ≡ 5 + 3 * nodes }
+    requires room { nodes ≤ length links.old }
     ensures { links.new ≡ links_in bytes.now ++ drop (2 ^ n_in bytes.now) links.old }
 {
     let mut a: usize = 0;
@@ -126,9 +126,9 @@ fn write_links(bytes: &[u8], nodes: usize, links: &mut [u16])
 
 // Reads a record: gives its n back, and writes its status bytes and link words into the first 2^n places of the lent slices.
 pub fn open(bytes: &[u8], status: &mut [u8], links: &mut [u16]) -> Opened
-    ensures result_value { said result ≡ opened bytes.now status.old links.old }
-    ensures status_after { status.new ≡ status_opened bytes.now status.old links.old }
-    ensures links_after { links.new ≡ links_opened bytes.now status.old links.old }
+    ensures answer { said result ≡ opened bytes.now status.old links.old }
+    ensures boards { status.new ≡ status_opened bytes.now status.old links.old }
+    ensures words { links.new ≡ links_opened bytes.now status.old links.old }
 {
     let number = refusal(bytes, status, links);
     if number != 0 {

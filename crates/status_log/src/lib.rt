@@ -69,8 +69,8 @@ fn put(row: &[u8], age: u16, status: &mut [u8])
 // Lets every record of a log speak, and counts those from the future.
 fn put_all(log: &[u8], sweep: u16, status: &mut [u8]) -> usize
     requires { sound (length status.old) (records log.now) ≡ true }
-    ensures value { result ≡ skipped sweep (records log.now) }
-    ensures status_after { status.new ≡ updated sweep log.now status.old }
+    ensures count { result ≡ skipped sweep (records log.now) }
+    ensures boards { status.new ≡ updated sweep log.now status.old }
 {
     let mut at: usize = 0;
     let mut count: usize = 0;
@@ -97,8 +97,8 @@ fn clear(status: &mut [u8])
 
 // Makes the status bytes of all 2^n nodes from a log, and answers how many of its records are from the future.
 pub fn refresh(n: u32, sweep: u16, log: &[u8], status: &mut [u8]) -> Refreshed
-    ensures result_value { said result ≡ refreshed n sweep log.now status.old }
-    ensures status_after { status.new ≡ status_after n sweep log.now status.old }
+    ensures answer { said result ≡ refreshed n sweep log.now status.old }
+    ensures boards { status.new ≡ status_after n sweep log.now status.old }
 {
     let number = log_refusal(n, log, status);
     if number != 0 {
@@ -111,8 +111,8 @@ pub fn refresh(n: u32, sweep: u16, log: &[u8], status: &mut [u8]) -> Refreshed
 
 // Refresh for a log that comes in parts of whole records: over status bytes that are all 0 before the first part.
 pub fn update(n: u32, sweep: u16, part: &[u8], status: &mut [u8]) -> Refreshed
-    ensures result_value { said result ≡ refreshed n sweep part.now status.old }
-    ensures status_after { status.new ≡ update_after n sweep part.now status.old }
+    ensures answer { said result ≡ refreshed n sweep part.now status.old }
+    ensures boards { status.new ≡ update_after n sweep part.now status.old }
 {
     let refused = log_refusal(n, part, status);
     if refused != 0 {

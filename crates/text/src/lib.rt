@@ -36,8 +36,8 @@ struct Name {
 
 // The name of a class between two spaces.
 fn name_of(class: Class) -> Name
-    ensures prefix_len { IsPrefixLen result.size result.bytes }
-    ensures bytes_value { take result.size result.bytes ≡ spec.spaced class }
+    ensures count { IsPrefixLen result.size result.bytes }
+    ensures text { take result.size result.bytes ≡ spec.spaced class }
 {
     match class {
         Class::Silent => Name {
@@ -132,8 +132,8 @@ fn room() -> [u16; 1024]
 // The vectors of an accepted report of dimension n, which stands at the start of the slices.
 fn vectors_of(n: u32, status: &[u8], links: &[u16]) -> [u16; 1024]
     requires { Fit (accepted n) status.now links.now }
-    ensures value { 1024 ≡ length result }
-    ensures result_value { let R = report n (take (2 ^ n) status.now) (take (2 ^ n) links.now) in
+    ensures long { 1024 ≡ length result }
+    ensures words { let R = report n (take (2 ^ n) status.now) (take (2 ^ n) links.now) in
         take (2 ^ n) result ≡ vectors (cube R) }
 {
     let nodes: usize = 1 << n;

@@ -6,4 +6,4 @@ use Rattle.deruvain.proofs.deruvain_open.Goals as goal
 pub returns : goal.returns
 returns c =
     let e = c.open.ensures in
-    record { answer = subst (Read c.of_opened.result) e.result_value c.of_opened.ensures; boards = e.status_after; words = e.links_after }
+    record { answer = subst (Read c.of_opened.result) e.answer c.of_opened.ensures; boards = e.boards; words = e.words }

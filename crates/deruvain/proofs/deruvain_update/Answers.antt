@@ -6,4 +6,4 @@ use Rattle.deruvain.proofs.deruvain_update.Goals as goal
 pub returns : goal.returns
 returns c =
     let e = c.update.ensures in
-    record { answer = subst (Skipped c.of_refreshed.result) e.result_value c.of_refreshed.ensures; boards = e.status_after }
+    record { answer = subst (Skipped c.of_refreshed.result) e.answer c.of_refreshed.ensures; boards = e.boards }

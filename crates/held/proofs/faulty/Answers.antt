@@ -12,4 +12,7 @@ pub returns : goal.returns
 returns c =
     let a = c.args in
     let words = c.joint-word.ensures ∙ ap (λ (b : ℕ). pack (joint (get_or a.links.now a.a 0) (get_or a.links.now b 0)) 16) c.across-b.ensures in
-    record { digit = c.marked.ensures.digit ∙ ap one (ap (λ (w : ℕ). bit w (suc a.i)) words ∙ cut_joint a.links.now a.a a.i c.requires.0); small = c.marked.ensures.small }
+    record {
+      digit = c.marked.ensures.digit ∙ ap one (ap (λ (w : ℕ). bit w (suc a.i)) words ∙ cut_joint a.links.now a.a a.i c.requires.0);
+      small = c.marked.ensures.small;
+    }

@@ -24,22 +24,32 @@ abbrev after : Start → List ℕ
 after c = (leave (given c) c.args.picks.now c.args.s.0 c.args.d.0 (chosen c.args.kind)).after
 
 -- n + 1 hops are promised at most, and as many are made as are promised
-few : (c : After-offer-offer) → (c.offer-offer.result.hops ≤ c.args.n + 1) × (c.offer-offer.result.hops ≡ length ((leave (report c.args.n c.args.status.now c.args.links.now) c.args.picks.now c.args.s.0 c.args.d.0 (chosen c.args.kind)).after))
+few : (c : After-offer-offer)
+    → let R = report c.args.n c.args.status.now c.args.links.now in
+    (c.offer-offer.result.hops ≤ c.args.n + 1)
+    × (c.offer-offer.result.hops ≡ length (leave R c.args.picks.now c.args.s.0 c.args.d.0 (chosen c.args.kind)).after)
 few c =
+    let R = report c.args.n c.args.status.now c.args.links.now in
     let h = decide_hops _ _ _ _ _ c.requires.4 in
     let e = c.offer-offer.ensures.1 in
-    (omega (arith, e, h), e ∙ sym (leave_arrives (report c.args.n c.args.status.now c.args.links.now) _ _ _ c.args.picks.now c.requires.4 (omega (arith, h, c.requires.1))).1)
+    (omega (arith, e, h), e ∙ sym (leave_arrives R _ _ _ c.args.picks.now c.requires.4 (omega (arith, h, c.requires.1))).1)
 
 pub follow-first-requires : goal.follow-first-requires
 follow-first-requires c = (c.requires.0, (_, refl))
 
 -- the message after its first hop
-first : (c : After-follow-first) → Walks (report c.args.n c.args.status.now c.args.links.now) c.offer-offer.result.hops 1 c.follow-first.result
-    × (((leave (report c.args.n c.args.status.now c.args.links.now) c.args.picks.now c.args.s.0 c.args.d.0 (chosen c.args.kind)).after) ≡ c.follow-first.result.node.0 ∷ ahead (report c.args.n c.args.status.now c.args.links.now) c.args.picks.now 1 c.follow-first.result)
+first : (c : After-follow-first)
+    → let R = report c.args.n c.args.status.now c.args.links.now in
+    let m = c.follow-first.result in
+    Walks R c.offer-offer.result.hops 1 m
+    × ((leave R c.args.picks.now c.args.s.0 c.args.d.0 (chosen c.args.kind)).after ≡ m.node.0 ∷ ahead R c.args.picks.now 1 m)
 first c =
+    let R = report c.args.n c.args.status.now c.args.links.now in
     let m : Message = record { node = c.args.s; nav = c.to.result } in
-    sets_out (report c.args.n c.args.status.now c.args.links.now) c.args.picks.now m c.args.d.0 _ c.requires.4 c.follow-first.result _ _ c.to.ensures c.offer-offer.ensures
-    (omega (arith, c.if-offer-ne0.true)) (omega (arith, decide_hops _ _ _ _ _ c.requires.4, c.offer-offer.ensures.1, c.requires.1)) c.follow-first.ensures
+    let e = c.offer-offer.ensures in
+    let h = decide_hops _ _ _ _ _ c.requires.4 in
+    sets_out R c.args.picks.now m c.args.d.0 _ c.requires.4 c.follow-first.result _ _ c.to.ensures e
+    (omega (arith, c.if-offer-ne0.true)) (omega (arith, h, e.1, c.requires.1)) c.follow-first.ensures
 
 pub bounds-path-1 : goal.bounds-path-1
 bounds-path-1 c =

@@ -21,4 +21,4 @@ pub returns : goal.returns
 unfolding taken
 returns c =
     let a = c.args in
-    c.rank.ensures ∙ ap (ranked (bit a.mask) _) c.top.ensures.value ∙ ranked_top a.mask _ a.n c.ranges.mask.fits
+    c.rank.ensures ∙ ap (ranked (bit a.mask) _) c.top.ensures.least ∙ ranked_top a.mask _ a.n c.ranges.mask.fits

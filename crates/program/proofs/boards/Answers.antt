@@ -11,4 +11,4 @@ returns-else-n-gt9 c =
     let n = c.args.n in
     let shifted : 1 * 2 ^ n % 18446744073709551616 ≡ 2 ^ n = rw one-mul (mod-eq_of_lt (pow-lt {i = n} {j = 64} (omega arith))) in
     let e : min n 10 ≡ n = omega arith in
-    record { upper_bound = omega (arith, pow_mono {i = n} {j = 10} (omega arith)); value = rw e shifted }
+    record { few = omega (arith, pow_mono {i = n} {j = 10} (omega arith)); power = rw e shifted }

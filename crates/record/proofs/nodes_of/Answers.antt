@@ -8,4 +8,4 @@ pub returns : goal.returns
 returns c =
     let n = c.args.n % 16 in
     let small : 2 ^ n < 65536 = pow-lt {i = n} {j = 16} (omega arith) in
-    record { value = omega (arith, small); upper_bound = omega (arith, small) }
+    record { power = omega (arith, small); small = omega (arith, small) }

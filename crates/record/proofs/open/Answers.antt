@@ -11,7 +11,7 @@ use Rattle.record.proofs.open.Goals.{Else-number-ne0}
 pub returns-then-number-ne0 : goal.returns-then-number-ne0
 returns-then-number-ne0 c =
     let kept = after_refusal _ _ _ _ c.refusal-number.ensures (λ e. c.if-number-ne0.true (omega arith)) in
-    record { result_value = kept.0; status_after = kept.1.0; links_after = kept.1.1 }
+    record { answer = kept.0; boards = kept.1.0; words = kept.1.1 }
 
 -- past the refusals
 none : (c : Else-number-ne0) → open_refusal c.args.bytes.now c.args.status.now c.args.links.now ≡ 0
@@ -40,4 +40,4 @@ write_links-requires c =
 pub returns : goal.returns
 returns c =
     let done = after_reading _ _ _ (none (goal.at.returns c).Else-number-ne0) in
-    record { result_value = done.0; status_after = c.write_status.ensures ∙ done.1.0; links_after = c.write_links.ensures ∙ done.1.1 }
+    record { answer = done.0; boards = c.write_status.ensures ∙ done.1.0; words = c.write_links.ensures ∙ done.1.1 }

@@ -27,5 +27,5 @@ returns c =
       c.word-length.ensures,
     )
     (chain a.bytes.now a.status.now a.links.now c.nodes_of-nodes.result c.narrow_links.result (omega (arith, c.if-bytes-lt5.false))
-    (λ h. c.nodes_of-nodes.ensures.value ∙ nodes_known (n_in a.bytes.now) h)
+    (λ h. c.nodes_of-nodes.ensures.power ∙ nodes_known (n_in a.bytes.now) h)
     c.narrow_links.ensures)

@@ -16,7 +16,7 @@ bounds-links-a c = omega (arith, length_written _ _ _ _ (omega arith) c.loop-a.i
 
 pub loop-a-preserved : goal.loop-a-preserved
 loop-a-preserved c =
-    (omega arith, written_next _ _ _ _ _ (omega arith) c.loop-a.invariant.1 (c.link.ensures ∙ link_at c.args.bytes.now _ _ c.requires.nodes_value))
+    (omega arith, written_next _ _ _ _ _ (omega arith) c.loop-a.invariant.1 (c.link.ensures ∙ link_at c.args.bytes.now _ _ c.requires.power))
 
 pub shape_of-links : goal.shape_of-links
 shape_of-links c = length_written _ _ _ _ (omega arith) c.loop-a.invariant.1

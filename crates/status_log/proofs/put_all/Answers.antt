@@ -55,4 +55,8 @@ loop-at-preserved c =
 pub returns : goal.returns
 returns c =
     let d = c.args in
-    let l = c.loop-at in record { value = omega (arith, skipped_end d.sweep d.log.now l.at (omega arith)); status_after = tells_end d.sweep d.log.now d.status.now l.at l.status (omega arith) l.invariant.1.1.1.1.0 l.invariant.1.1.1.1.1 }
+    let l = c.loop-at in
+    record {
+      count = omega (arith, skipped_end d.sweep d.log.now l.at (omega arith));
+      boards = tells_end d.sweep d.log.now d.status.now l.at l.status (omega arith) l.invariant.1.1.1.1.0 l.invariant.1.1.1.1.1;
+    }

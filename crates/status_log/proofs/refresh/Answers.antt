@@ -13,7 +13,11 @@ pub returns-then-number-ne0 : goal.returns-then-number-ne0
 returns-then-number-ne0 c =
     let a = c.args in
     let e = c.log_refusal-number.ensures in
-    let some : c.log_refusal-number.result ≡ 0 → ⊥ = λ z. absurd (omega arith) in record { result_value = answer_refused a.n a.sweep a.log.now a.status.now _ e some; status_after = (kept_refused a.n a.sweep a.log.now a.status.now _ e some).0 }
+    let some : c.log_refusal-number.result ≡ 0 → ⊥ = λ z. absurd (omega arith) in
+    record {
+      answer = answer_refused a.n a.sweep a.log.now a.status.now _ e some;
+      boards = (kept_refused a.n a.sweep a.log.now a.status.now _ e some).0;
+    }
 
 pub put_all-count-requires : goal.put_all-count-requires
 put_all-count-requires c =
@@ -27,4 +31,8 @@ returns c =
     let a = c.args in
     let e = c.log_refusal-number.ensures in
     let none : c.log_refusal-number.result ≡ 0 = omega arith in
-    let told = c.put_all-count.ensures in record { result_value = answer_done a.n a.sweep a.log.now a.status.now _ e _ none told.value; status_after = refresh_done a.n a.sweep a.log.now a.status.now _ e _ none (told.status_after ∙ ap (updated a.sweep a.log.now) c.clear.ensures) }
+    let told = c.put_all-count.ensures in
+    record {
+      answer = answer_done a.n a.sweep a.log.now a.status.now _ e _ none told.count;
+      boards = refresh_done a.n a.sweep a.log.now a.status.now _ e _ none (told.boards ∙ ap (updated a.sweep a.log.now) c.clear.ensures);
+    }

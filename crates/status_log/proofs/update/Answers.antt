@@ -5,7 +5,11 @@ use Rattle.status_log.proofs.update.Goals as goal
 pub returns-then-refused-ne0 : goal.returns-then-refused-ne0
 returns-then-refused-ne0 c =
     let a = c.args in
-    let e = c.log_refusal-refused.ensures in record { result_value = answer_refused a.n a.sweep a.part.now a.status.now _ e c.if-refused-ne0.true; status_after = (kept_refused a.n a.sweep a.part.now a.status.now _ e c.if-refused-ne0.true).1 }
+    let e = c.log_refusal-refused.ensures in
+    record {
+      answer = answer_refused a.n a.sweep a.part.now a.status.now _ e c.if-refused-ne0.true;
+      boards = (kept_refused a.n a.sweep a.part.now a.status.now _ e c.if-refused-ne0.true).1;
+    }
 
 pub put_all-skipped-requires : goal.put_all-skipped-requires
 put_all-skipped-requires c =
@@ -17,4 +21,8 @@ returns c =
     let a = c.args in
     let e = c.log_refusal-refused.ensures in
     let none = c.if-refused-ne0.false in
-    let told = c.put_all-skipped.ensures in record { result_value = answer_done a.n a.sweep a.part.now a.status.now _ e _ none told.value; status_after = update_done a.n a.sweep a.part.now a.status.now _ e _ none told.status_after }
+    let told = c.put_all-skipped.ensures in
+    record {
+      answer = answer_done a.n a.sweep a.part.now a.status.now _ e _ none told.count;
+      boards = update_done a.n a.sweep a.part.now a.status.now _ e _ none told.boards;
+    }

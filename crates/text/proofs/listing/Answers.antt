@@ -22,7 +22,7 @@ answer :
     (c : After-open-opened) → Answered c.args.bytes.now (said c.open-opened.result) c.open-opened.new.status c.open-opened.new.links
 answer c =
     let r = c.open-opened in
-    answered c.args.bytes.now _ _ _ r.ensures.result_value r.ensures.status_after r.ensures.links_after
+    answered c.args.bytes.now _ _ _ r.ensures.answer r.ensures.boards r.ensures.words
 
 pub put_opened-requires : goal.put_opened-requires
 put_opened-requires c = (answer (goal.at.put_opened-requires c).After-open-opened).fit

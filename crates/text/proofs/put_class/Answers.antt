@@ -2,4 +2,4 @@
 use Rattle.text.proofs.put_class.Goals as goal
 
 pub returns : goal.returns
-returns c = rw (← c.name_of-name.ensures.bytes_value) c.put.ensures
+returns c = rw (← c.name_of-name.ensures.text) c.put.ensures

@@ -13,5 +13,5 @@ put_lines-requires c =
 pub returns : goal.returns
 returns c =
     let a = c.args in
-    rw (← cube_listed a.n a.status.now a.links.now c.vectors_of-vectors.result c.vectors_of-vectors.ensures.result_value)
+    rw (← cube_listed a.n a.status.now a.links.now c.vectors_of-vectors.result c.vectors_of-vectors.ensures.words)
     (put_then c.put_titled-titled.ensures (rw (nodes_of a.n c.requires.high) at c.put_lines.ensures))

@@ -19,4 +19,4 @@ returns c =
     let h : 2 ^ a.n ≤ length room.result = omega (arith, pow_mono {i = a.n} {j = 10} c.requires.high, room.ensures) in
     let nodes = sub-zero _ ∙ nodes_of a.n c.requires.high in
     let first = filled_first a.n a.status.now a.links.now room.result _ _ nodes c.requires h c.fill.ensures.1 in
-    record { value = room.ensures ∙ first.0; result_value = first.1 }
+    record { long = room.ensures ∙ first.0; words = first.1 }

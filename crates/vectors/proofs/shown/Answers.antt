@@ -14,4 +14,8 @@ bounds-bytes-b c =
 
 pub returns : goal.returns
 returns c =
-    let bytes = c.args.bytes.now in record { digit = shown_digit bytes c.requires.2 _ ∙ ap one (ap (shown bytes) (flip_next c.args.a c.args.i 64 (omega arith)) ∙ sym (registered_all (shown bytes) c.args.a (suc c.args.i))); small = c.requires.2 _ }
+    let bytes = c.args.bytes.now in
+    record {
+      digit = shown_digit bytes c.requires.2 _ ∙ ap one (ap (shown bytes) (flip_next c.args.a c.args.i 64 (omega arith)) ∙ sym (registered_all (shown bytes) c.args.a (suc c.args.i)));
+      small = c.requires.2 _;
+    }

@@ -22,4 +22,8 @@ overflow_mul-result c = record { fits = lt_of_le_of_lt (unless_le _ _ c.shown.en
 pub returns : goal.returns
 unfolding masked held
 returns c =
-    let a = c.args in record { digit = registered_digit (masked a.mask) (shown a.bytes.now) a.a (suc a.i) _ _ (rw add-one at (held_mod _ (a.i + 1) _ (omega (arith, c.requires.0)) c.bit_of.ensures.digit)) (c.shown.ensures.digit ∙ ap one (registered_all (shown a.bytes.now) a.a (suc a.i))); small = unless_le _ _ c.shown.ensures.small }
+    let a = c.args in
+    record {
+      digit = registered_digit (masked a.mask) (shown a.bytes.now) a.a (suc a.i) _ _ (rw add-one at (held_mod _ (a.i + 1) _ (omega (arith, c.requires.0)) c.bit_of.ensures.digit)) (c.shown.ensures.digit ∙ ap one (registered_all (shown a.bytes.now) a.a (suc a.i)));
+      small = unless_le _ _ c.shown.ensures.small;
+    }
