@@ -15,7 +15,7 @@ use Rattle.cube.proofs.Count.{xor_cancel}
 use Rattle.cube.proofs.Reply.{unless_accepted, unless_none, unless_refused}
 use Rattle.report.specs.Health.{Cube}
 use Rattle.report.specs.Report.{Report, cube}
-use Rattle.report.proofs.Report.{dimension_range}
+use Rattle.report.proofs.Laws.{dimension_range}
 use Rattle.safety.specs.Safety.{vectors_of}
 use Rattle.held.specs.Held.{own}
 use Rattle.rules.specs.Refusals.{decide_refusal}

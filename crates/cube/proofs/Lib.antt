@@ -4,3 +4,4 @@ pub mod Count
 pub mod Strip
 pub mod Table
 pub mod Reply
+pub mod Refusals

@@ -2,3 +2,4 @@ pub mod Bits
 pub mod Count
 pub mod Table
 pub mod Reply
+pub mod Refusals

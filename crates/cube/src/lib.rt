@@ -5,6 +5,10 @@ ghost use Rattle.std.specs.Prelude.{◌≡◌, not, cond, eqb};
 ghost use Rattle.std.specs.Int.Bits.{bit_xor};
 ghost use Rattle.cube.specs.Bits.{crossed, weight};
 
+mod refusal;
+
+pub use refusal::Refusal;
+
 // An absolute node number.
 #[derive(Clone, Copy)]
 pub struct Node(pub u16);

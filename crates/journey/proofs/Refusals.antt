@@ -10,7 +10,7 @@ use lib.ListN.{length}
 use Rattle.cube.proofs.Reply.{passed, later, refusal_le}
 use Rattle.cube.proofs.Table.{length_table}
 use Rattle.report.specs.Report.{Report, cube, dimension, sized, all_sized, narrow}
-use Rattle.report.proofs.Report.{dimension_range}
+use Rattle.report.proofs.Laws.{dimension_range}
 use Rattle.safety.specs.Safety.{vector, vectors, vectors_of}
 use Rattle.rules.specs.Refusals.{decide_refusal}
 use Rattle.rules.proofs.Refusals.{decide_clear, decide_none, decide_refusal_le}

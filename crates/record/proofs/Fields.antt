@@ -9,7 +9,7 @@ use lib.Seq.{length-take-le}
 use Rattle.cube.proofs.Table.{length_table, get_or_table, table_part}
 use Rattle.cube.specs.Table.{table}
 use Rattle.report.specs.Report.{narrow}
-use Rattle.report.proofs.Report.{narrow_of, wide_of}
+use Rattle.report.proofs.Laws.{narrow_of, wide_of}
 use Rattle.record.specs.Open.{word, n_in, status_in, link_in, links_in}
 
 -- how many nodes there are, as the code has it for any n

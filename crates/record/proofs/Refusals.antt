@@ -10,7 +10,7 @@ use lib.ListN.{length, drop}
 use Rattle.cube.specs.Reply.{refused, accepted, refusal, unless, kept}
 use Rattle.cube.proofs.Reply.{passed, later, refusal_le}
 use Rattle.report.specs.Report.{dimension, narrow}
-use Rattle.report.proofs.Report.{dimension_range}
+use Rattle.report.proofs.Laws.{dimension_range}
 use Rattle.record.specs.Open.{length_in, kind_in, n_in, status_in, links_in, open_refusal, opened, status_opened, links_opened}
 
 -- both lent slices have 2^n places

@@ -3,6 +3,7 @@ use Rattle.std.specs.Prelude.{◌≡◌, ℕ, ◌^◌, Bool, true, ◌&&◌, ◌
 use Rattle.cube.specs.Bits.{bit, flip}
 use Rattle.report.specs.Class.{class_of, is_working}
 use Rattle.report.specs.Health.{Cube}
+use Rattle.report.specs.declared.Report.{Report as Lent}
 
 -- a report: its dimension, one status byte for each node, and one link word for each node
 pub record Report : Type 0 where
@@ -13,6 +14,10 @@ pub record Report : Type 0 where
 -- the report of a dimension, status bytes and link words
 abbrev pub report : ℕ → List ℕ → List ℕ → Report
 report n status links = record { dim = n; status = status; links = links }
+
+-- the report that is lent to a job
+abbrev pub reported : Lent → Report
+reported r = report r.n r.status.now r.links.now
 
 -- the board of node a is working; a node past the end of the list was never heard
 unfoldable pub works : List ℕ → ℕ → Bool

@@ -1,10 +1,10 @@
 // What a cabinet report means: the class of a status byte, which boards work, which links count as faulty.
 #![tactic(auto)]
 
-ghost use Rattle.std.specs.Prelude.{◌≡◌, min, ◌^◌, ◌&&◌, eqb};
+ghost use Rattle.std.specs.Prelude.{◌≡◌, min, ◌^◌, eqb};
 ghost use Rattle.report.specs.Class.{class_of, is_working};
 ghost use Rattle.cube.specs.Count.{pack};
-ghost use Rattle.report.specs.Report.{works, joint, SeenFromBothEnds, narrow, dimension, within};
+ghost use Rattle.report.specs.Report.{reported, works, joint, SeenFromBothEnds, narrow, dimension, all_sized, within};
 
 use cube::{Nav, Node};
 
@@ -46,15 +46,60 @@ impl Class {
     }
 }
 
-// Whether the board of node a is working; a node past the end was never heard.
-pub fn works(status: &[u8], a: Node) -> bool
-    ensures { result ≡ works status.now a.0 }
-{
-    let at = a.0 as usize;
-    if status.len() <= at {
-        return false;
+// What a cabinet reports: its dimension, a status byte of each board, and a link word of each.
+#[derive(Clone, Copy)]
+pub struct Report<'a> {
+    pub n: u32,
+    pub status: &'a [u8],
+    pub links: &'a [u16],
+}
+
+impl Report<'_> {
+    // Whether n is from 1 to 10.
+    pub fn has_dimension(&self) -> bool
+        ensures { result ≡ dimension self.now.n }
+    {
+        dimension(self.n)
     }
-    class_of(status[at]).is_working()
+
+    // Whether status bytes, link words and these vectors are one for each node.
+    pub fn is_sized(&self, vectors: &[u16]) -> bool
+        ensures { result ≡ all_sized (reported self.now) vectors.now }
+    {
+        let n = self.n;
+        sized(n, self.status.len()) & (sized(n, self.links.len()) & sized(n, vectors.len()))
+    }
+
+    // Whether no link word has a bit at weight 2^n or above.
+    pub fn is_narrow(&self) -> bool
+        ensures { result ≡ narrow self.now.n self.now.links.now }
+    {
+        narrow(self.n, self.links)
+    }
+
+    // Whether the cube has node a.
+    pub fn has_node(&self, a: Node) -> bool
+        ensures { result ≡ within self.now.n a.0 }
+    {
+        has_node(self.n, a)
+    }
+
+    // Whether the cube has relative address v.
+    pub fn has_address(&self, v: Nav) -> bool
+        ensures { result ≡ within self.now.n v.0 }
+    {
+        within(self.n, v.0)
+    }
+
+    // Whether the board of node a is working; a node past the end was never heard.
+    pub fn works(&self, a: Node) -> bool
+        ensures { result ≡ works self.now.status.now a.0 }
+    {
+        match self.status.get(a.0 as usize) {
+            Some(byte) => class_of(*byte).is_working(),
+            None => false,
+        }
+    }
 }
 
 // The words of a link's two ends taken together, as the mask of the dimensions that either marks.
@@ -87,25 +132,11 @@ pub fn sized(n: u32, length: usize) -> bool
     length == boards
 }
 
-// Whether three slices of these lengths have one entry for each node.
-pub fn all_sized(n: u32, a: usize, b: usize, c: usize) -> bool
-    ensures { result ≡ (eqb a (2 ^ n) && (eqb b (2 ^ n) && eqb c (2 ^ n))) }
-{
-    sized(n, a) & (sized(n, b) & sized(n, c))
-}
-
 // Whether a cube of dimension n has node a.
 pub fn has_node(n: u32, a: Node) -> bool
     ensures { result ≡ within n a.0 }
 {
     within(n, a.0)
-}
-
-// Whether a cube of dimension n has relative address v.
-pub fn has_address(n: u32, v: Nav) -> bool
-    ensures { result ≡ within n v.0 }
-{
-    within(n, v.0)
 }
 
 // Whether a number is below 2^n.
@@ -127,12 +158,5 @@ pub fn narrow(n: u32, links: &[u16]) -> bool
     ensures { result ≡ narrow n links.now }
 {
     let top = limit(n);
-    let mut i: usize = 0;
-    while i < links.len() {
-        if top <= links[i] as u32 {
-            return false;
-        }
-        i += 1;
-    }
-    true
+    links.iter().all(|word| (*word as u32) < top)
 }

@@ -7,7 +7,7 @@ use borrow.Author.Tests.{not-false, eqb-true}
 use lib.ListN.{length}
 use Rattle.cube.proofs.Reply.{passed}
 use Rattle.report.specs.Report.{Report, sized, all_sized}
-use Rattle.report.proofs.Report.{dimension_range}
+use Rattle.report.proofs.Laws.{dimension_range}
 use Rattle.vectors.specs.Fill.{fill_refusal}
 
 pub accepted_size : (R : Report) (out : List ℕ) → fill_refusal R out ≡ 0 → (R.dim ≤ 10) × (length out ≡ 2 ^ R.dim) × (length R.links ≡ 2 ^ R.dim)

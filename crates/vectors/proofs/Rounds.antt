@@ -18,7 +18,7 @@ use Rattle.cube.proofs.Count.{one_le, one_eqb, bit_pack, pack_lt, pack_cong, pac
 use Rattle.cube.proofs.Table.{length_table, get_or_table, table_ext, take_replicate}
 use Rattle.report.specs.Health.{Cube}
 use Rattle.report.specs.Report.{Report, works, cut, cube, narrow}
-use Rattle.report.proofs.Report.{cut_none}
+use Rattle.report.proofs.Laws.{cut_none}
 use Rattle.safety.specs.Safety.{registered, supported, safe, bits_of, vector, vectors}
 use Rattle.held.specs.Held.{own}
 use Rattle.vectors.specs.Rounds.{up_to, after, digit, shown, Digits, faults, all_faults, masked, known}

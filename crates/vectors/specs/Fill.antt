@@ -1,10 +1,10 @@
 -- Fill: all 2^n vectors into a lent slice.
-use Rattle.std.specs.Prelude.{ℕ, not, List, [], ◌∷◌}
-use Rattle.cube.specs.Reply.{Reply, refused, accepted, refusal, unless, kept}
+use Rattle.std.specs.Prelude.{ℕ, not, List, [], ◌∷◌, Result}
+use Rattle.cube.specs.Reply.{Reply, accepted, refusal, unless, kept}
+use Rattle.cube.specs.Refusals.{saying}
+use Rattle.cube.specs.declared.refusal.Refusal.{Refusal}
 use Rattle.report.specs.Report.{Report, cube, dimension, all_sized, narrow}
 use Rattle.safety.specs.Safety.{vectors, vectors_of}
-use Rattle.vectors.specs.declared.Filled.{Filled}
-use Rattle.vectors.specs.declared.Filled.TheVariants.{Done, Refused}
 
 -- the refusals, lowest first
 unfoldable pub fill_refusal : Report → List ℕ → ℕ
@@ -27,6 +27,5 @@ unfolding fill_refusal kept cube vectors
 filled R out = kept (fill_refusal R out) (vectors_of R) out
 
 -- what each case of the answer says
-abbrev pub said : Filled → Reply (Unit {0})
-said Done = accepted tt
-said (Refused m) = refused m
+abbrev pub said : Result (Unit {0}) Refusal → Reply (Unit {0})
+said = saying (λ _. tt)

@@ -4,33 +4,16 @@
 ghost use Rattle.std.specs.Prelude.{◌≡◌, suc, ◌+◌, ◌^◌, ◌≤◌, ◌<◌, ◌&&◌, length, replicate};
 ghost use Rattle.cube.specs.Bits.{flip};
 ghost use Rattle.cube.specs.Count.{one, count};
-ghost use Rattle.cube.specs.Reply.{number_of, OneAnswer};
+ghost use Rattle.cube.specs.Reply.{OneAnswer};
+ghost use Rattle.cube.specs.Refusals.{refused_by};
 ghost use Rattle.cube.specs.Table.{table};
-ghost use Rattle.report.specs.Report.{report, works, cube};
+ghost use Rattle.report.specs.Report.{report, reported, works, cube};
 ghost use Rattle.safety.specs.Safety.{registered, supported};
 ghost use Rattle.vectors.specs.Rounds.{after, digit, shown, Digits, all_faults, masked, known};
 ghost use Rattle.vectors.specs.Fill.{fill_refusal, fill, filled, said};
 
-use cube::{Node, refused_unless};
-
-// What Fill answers.
-#[derive(Clone, Copy)]
-pub enum Filled {
-    Done,
-    Refused(u32),
-}
-
-impl Filled {
-    // The number of a refusal, 0 where it is done.
-    pub fn number(self) -> u32
-        ensures { result ≡ number_of (said self) }
-    {
-        match self {
-            Filled::Done => 0,
-            Filled::Refused(m) => m,
-        }
-    }
-}
+use cube::{Node, Refusal};
+use report::Report;
 
 // All vectors 0, as before the first round.
 fn clear(vectors: &mut [u16])
@@ -168,7 +151,12 @@ fn next_bit(n: u32, status: &[u8], masks: &[u16], bytes: &[u8], a: usize, k: u32
         result ≡ one (K.works a && supported K (shown bytes.now) (suc k) a) }
 {
     let number = a as u16;
-    if report::works(status, Node(number)) {
+    let report = Report {
+        n,
+        status,
+        links: &[],
+    };
+    if report.works(Node(number)) {
         let sum = heard_by(n, masks[a], bytes, a);
         if sum <= n - (k + 1) { 0 } else { 1 }
     } else {
@@ -283,27 +271,24 @@ fn write_vectors(n: u32, status: &[u8], links: &[u16], vectors: &mut [u16])
     }
 }
 
-// The number by which Fill refuses, 0 for none.
-fn fill_refusal(n: u32, status: &[u8], links: &[u16], vectors: &[u16]) -> u32
-    ensures { result ≡ fill_refusal (report n status.now links.now) vectors.now }
+// What is tested before anything is written.
+#[tactic(auto, using(cube::proofs::Refusals::failed, cube::proofs::Refusals::holds, cube::proofs::Refusals::of_test), unfolding(crate::specs::Fill::fill_refusal))]
+fn tested(report: &Report, vectors: &[u16]) -> Result<(), Refusal>
+    ensures { refused_by result ≡ fill_refusal (reported report.now) vectors.now }
 {
-    let by_3 = refused_unless(report::narrow(n, links), 3, 0);
-    let sized = report::all_sized(n, status.len(), links.len(), vectors.len());
-    let by_2 = refused_unless(sized, 2, by_3);
-    refused_unless(report::dimension(n), 1, by_2)
+    Refusal::Dimension.unless(report.has_dimension())?;
+    Refusal::Length.unless(report.is_sized(vectors))?;
+    Refusal::WideLink.unless(report.is_narrow())
 }
 
 // Fill: writes all 2^n vectors into the lent slice.
-pub fn fill(n: u32, status: &[u8], links: &[u16], vectors: &mut [u16]) -> Filled
-    ensures { let R = report n status.now links.now in
-        (said result ≡ fill R vectors.old) × (vectors.new ≡ filled R vectors.old) }
+pub fn fill(report: &Report, vectors: &mut [u16]) -> Result<(), Refusal>
+    ensures answer { said result ≡ fill (reported report.now) vectors.old }
+    ensures words { vectors.new ≡ filled (reported report.now) vectors.old }
 {
-    let number = fill_refusal(n, status, links, vectors);
-    if number != 0 {
-        return Filled::Refused(number);
-    }
-    write_vectors(n, status, links, vectors);
-    Filled::Done
+    tested(report, vectors)?;
+    write_vectors(report.n, report.status, report.links, vectors);
+    Ok(())
 }
 
 // For every input the contract of `fill` allows one answer; the lent slice is given by `filled`.

@@ -5,7 +5,7 @@ use lib.ListN.{get_or}
 use Rattle.cube.specs.Bits.{bit}
 use Rattle.cube.specs.Count.{one, pack}
 use Rattle.report.specs.Report.{joint}
-use Rattle.report.proofs.Report.{cut_joint}
+use Rattle.report.proofs.Laws.{cut_joint}
 use Rattle.held.proofs.faulty.Goals as goal
 
 pub returns : goal.returns

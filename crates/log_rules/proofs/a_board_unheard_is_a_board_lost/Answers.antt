@@ -11,7 +11,7 @@ use Rattle.cube.proofs.Order.{lt_or_ge}
 use Rattle.cube.proofs.Table.{get_or_table, length_table}
 use Rattle.report.specs.Report.{works}
 use Rattle.report.specs.Class.{class_of}
-use Rattle.report.proofs.Report.{works_past}
+use Rattle.report.proofs.Laws.{works_past}
 use Rattle.log_rules.specs.Log.{records, ages, status_byte, tells}
 use Rattle.log_rules.specs.Claims.{UnheardIsLost}
 use Rattle.log_rules.proofs.Updates.{status_after_lem}

@@ -1,5 +1,5 @@
 -- `report::joint` meets its contract.
-use Rattle.report.proofs.Report.{joint_word}
+use Rattle.report.proofs.Laws.{joint_word}
 use Rattle.report.proofs.joint.Goals as goal
 
 pub returns : goal.returns

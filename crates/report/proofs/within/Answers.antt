@@ -2,7 +2,7 @@
 use mathlib.Core.Path.{ap, sym, ◌∙◌}
 use lib.Dec.{ltb}
 use Rattle.report.specs.Report.{within}
-use Rattle.report.proofs.Report.{word_limit}
+use Rattle.report.proofs.Laws.{word_limit}
 use Rattle.report.proofs.within.Goals as goal
 
 pub returns : goal.returns

@@ -9,7 +9,7 @@ use Rattle.cube.specs.Bits.{weight}
 use Rattle.cube.specs.Reply.{refused}
 use Rattle.cube.proofs.Reply.{unless_some, unless_none}
 use Rattle.report.specs.Report.{Report, report, cut, cube, within, all_sized}
-use Rattle.report.proofs.Report.{dimension_range}
+use Rattle.report.proofs.Laws.{dimension_range}
 use Rattle.held.specs.Held.{own}
 use Rattle.rules.specs.Rules.{at_source}
 use Rattle.rules.specs.Refusals.{decide_refusal}

@@ -8,7 +8,7 @@ use lib.Bits.{bit_xor}
 use Rattle.cube.specs.Reply.{refused}
 use Rattle.cube.proofs.Reply.{unless_some, unless_none}
 use Rattle.report.specs.Report.{Report, report, works, cube, within, all_sized}
-use Rattle.report.proofs.Report.{dimension_range}
+use Rattle.report.proofs.Laws.{dimension_range}
 use Rattle.rules.specs.Refusals.{hop_refusal}
 use Rattle.rules.specs.Hop.{hop}
 use Rattle.rules.proofs.Refusals.{Clear, hop_clear, hop_none, clear_lengths}

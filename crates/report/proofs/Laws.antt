@@ -13,6 +13,7 @@ use lib.Dec.{leb, ltb}
 use lib.Pow.{pow_mono, pow_pos}
 use lib.Seq.{drop-cons}
 use lib.ListN.{length, get_or, drop, drop_of_length-le, get_or-eq_default}
+use Rattle.std.specs.List.{list_all}
 use Rattle.cube.specs.Bits.{bit, flip}
 use Rattle.cube.specs.Count.{pack}
 use Rattle.cube.proofs.Bits.{bit_zero, bit_of_or}
@@ -105,3 +106,9 @@ cut_none links e a i = ap₂ ◌||◌ (unmarked a) (unmarked (flip a i))
 pub dimension_range : (n : ℕ) → dimension n ≡ true → (1 ≤ n) × (n ≤ 10)
 unfolding dimension
 dimension_range n e = let t = (and-eq-true_iff (leb 1 n) (leb n 10)).0 e in (leb-true 1 n t.0, leb-true n 10 t.1)
+
+-- a list is narrow if all its words are below the lesser of 2^n and 2^16, and only then
+pub narrow_all : (n : ℕ) (ws : List ℕ) → ((k : ℕ) → get_or ws k 0 < 2 ^ 16) → list_all (λ w. ltb w (2 ^ min n 16)) ws ≡ narrow n ws
+unfolding narrow
+narrow_all n [] fits = refl
+narrow_all n (w ∷ ws) fits = ap₂ ◌&&◌ (sym (word_limit n w (fits 0))) (narrow_all n ws (λ k. fits (suc k)))

@@ -1,0 +1,92 @@
+-- The laws of tests that refuse, and of answers that may be refusals.
+use mathlib.Core.Path.{◌≡◌, refl, sym, ap, ◌∙◌}
+use mathlib.Core.List.{List}
+use mathlib.Core.Bool.{Bool, true, false, not, cond}
+use Prim.Native.Nat.{ℕ, zero, suc}
+use native.Mathlib.Omega.{arith}
+use Rattle.std.specs.Prelude.{Result, Ok, Err}
+use Rattle.cube.specs.Reply.{Reply, refused, accepted, unless, kept, OneAnswer}
+use Rattle.cube.specs.Refusals.{number_in, saying, refused_by}
+use Rattle.cube.specs.declared.refusal.Refusal.{Refusal}
+use Rattle.cube.specs.declared.refusal.Refusal.TheVariants.{Dimension, Length, WideLink, Outside, BoardLost, DestinationLost, NoWay, Contradiction, NoOffer, Record, LogRecord, LogNode}
+use Rattle.cube.proofs.Reply.{unless_some, kept_some, one_answer}
+
+-- a test that refused didn't hold, and the refusal is its own
+pub failed : (t : Bool) (r e : Refusal) → ◌≡◌ {A = Result (Unit {0}) Refusal} (Err e) (cond t (Ok tt) (Err r)) → (t ≡ false) × (e ≡ r)
+failed true r e h = absurd (let z : ◌≡◌ {A = ℕ} 0 1 = cc in omega arith)
+failed false r e h = (refl, cc)
+
+-- a test that did not refuse holds
+pub holds : (t : Bool) (r : Refusal) (u : Unit {0}) → ◌≡◌ {A = Result (Unit {0}) Refusal} (Ok u) (cond t (Ok tt) (Err r)) → t ≡ true
+holds true r u h = refl
+holds false r u h = absurd (let z : ◌≡◌ {A = ℕ} 0 1 = cc in omega arith)
+
+-- the number of one test's refusal
+pub of_test : (t : Bool) (r : Refusal) → refused_by (cond t (Ok tt) (Err r)) ≡ cond (not t) (number_in r) 0
+of_test true r = refl
+of_test false r = refl
+
+-- no refusal has the number 0
+pub number_some : (e : Refusal) → number_in e ≡ 0 → ⊥
+number_some Dimension h = omega arith
+number_some Length h = omega arith
+number_some WideLink h = omega arith
+number_some Outside h = omega arith
+number_some BoardLost h = omega arith
+number_some DestinationLost h = omega arith
+number_some NoWay h = omega arith
+number_some Contradiction h = omega arith
+number_some NoOffer h = omega arith
+number_some Record h = omega arith
+number_some LogRecord h = omega arith
+number_some LogNode h = omega arith
+
+-- what is answered after a refusal
+pub unless_refusal : {A : Type 0} (m : ℕ) (r : Reply A) (e : Refusal) → number_in e ≡ m → unless m r ≡ refused (number_in e)
+unless_refusal m r e h = unless_some m r (λ z. number_some e (h ∙ z)) ∙ ap refused (sym h)
+
+-- what a refusal leaves
+pub kept_refusal : (m : ℕ) (new old : List ℕ) (e : Refusal) → number_in e ≡ m → kept m new old ≡ old
+kept_refusal m new old e h = kept_some m new old (λ z. number_some e (h ∙ z))
+
+-- the refusal of a number
+abbrev pub refusal_of : ℕ → Refusal
+refusal_of zero = Dimension
+refusal_of (suc zero) = Dimension
+refusal_of (suc (suc zero)) = Length
+refusal_of (suc (suc (suc zero))) = WideLink
+refusal_of (suc (suc (suc (suc zero)))) = Outside
+refusal_of (suc (suc (suc (suc (suc zero))))) = BoardLost
+refusal_of (suc (suc (suc (suc (suc (suc zero)))))) = DestinationLost
+refusal_of (suc (suc (suc (suc (suc (suc (suc zero))))))) = NoWay
+refusal_of (suc (suc (suc (suc (suc (suc (suc (suc zero)))))))) = Contradiction
+refusal_of (suc (suc (suc (suc (suc (suc (suc (suc (suc zero))))))))) = NoOffer
+refusal_of (suc (suc (suc (suc (suc (suc (suc (suc (suc (suc zero)))))))))) = Record
+refusal_of (suc (suc (suc (suc (suc (suc (suc (suc (suc (suc (suc zero))))))))))) = LogRecord
+refusal_of (suc (suc (suc (suc (suc (suc (suc (suc (suc (suc (suc (suc k)))))))))))) = LogNode
+
+pub refusal_back : (e : Refusal) → refusal_of (number_in e) ≡ e
+refusal_back Dimension = refl
+refusal_back Length = refl
+refusal_back WideLink = refl
+refusal_back Outside = refl
+refusal_back BoardLost = refl
+refusal_back DestinationLost = refl
+refusal_back NoWay = refl
+refusal_back Contradiction = refl
+refusal_back NoOffer = refl
+refusal_back Record = refl
+refusal_back LogRecord = refl
+refusal_back LogNode = refl
+
+-- answers that may be refusals are told apart by what they say, if their acceptances are
+pub one_answer_by : {A B : Type 0} (f : A → B) (back : B → A) → ((x : A) → back (f x) ≡ x) → OneAnswer (saying f)
+one_answer_by {A = A} {B = B} f back h = one_answer (saying f) undo undone
+  where
+    undo : Reply B → Result A Refusal
+    undo (refused m) = Err (refusal_of m)
+    undo (accepted y) = Ok (back y)
+
+    undone : (r : Result A Refusal) → undo (saying f r) ≡ r
+    undone (Ok x) = ap Ok (h x)
+    undone (Err e) = ap Err (refusal_back e)

@@ -1,0 +1,30 @@
+-- Why a job refuses, by number, and what the answer of a job that may refuse says.
+use Rattle.std.specs.Prelude.{ℕ, Result, Ok, Err}
+use Rattle.cube.specs.Reply.{Reply, refused, accepted}
+use Rattle.cube.specs.declared.refusal.Refusal.{Refusal}
+use Rattle.cube.specs.declared.refusal.Refusal.TheVariants.{Dimension, Length, WideLink, Outside, BoardLost, DestinationLost, NoWay, Contradiction, NoOffer, Record, LogRecord, LogNode}
+
+-- the numbers of document 01
+abbrev pub number_in : Refusal → ℕ
+number_in Dimension = 1
+number_in Length = 2
+number_in WideLink = 3
+number_in Outside = 4
+number_in BoardLost = 5
+number_in DestinationLost = 6
+number_in NoWay = 7
+number_in Contradiction = 8
+number_in NoOffer = 9
+number_in Record = 10
+number_in LogRecord = 11
+number_in LogNode = 12
+
+-- what an answer says, an acceptance in the words of f
+abbrev pub saying : {A B : Type 0} → (A → B) → Result A Refusal → Reply B
+saying f (Ok x) = accepted (f x)
+saying f (Err r) = refused (number_in r)
+
+-- the number of a test's refusal, 0 where it passes
+abbrev pub refused_by : Result (Unit {0}) Refusal → ℕ
+refused_by (Ok x) = 0
+refused_by (Err r) = number_in r
