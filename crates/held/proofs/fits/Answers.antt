@@ -1,5 +1,4 @@
 -- `held::fits` meets its contract.
-use mathlib.Core.Path.{ap₂}
 use native.Mathlib.Omega.{arith}
 use borrow.Author.Tests.{le-leb, lt-leb}
 use Rattle.cube.proofs.Bits.{pow_shift}

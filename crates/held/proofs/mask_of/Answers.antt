@@ -1,5 +1,5 @@
 -- `held::mask_of` meets its contract: each turn packs the dimension that it asks for.
-use Rattle.std.proofs.Common.{◌≡◌, ℕ, suc, ◌-◌, ap, ◌∙◌, arith}
+use Rattle.std.proofs.Common.{◌≡◌, suc, ◌-◌, ap, ◌∙◌, arith}
 use Rattle.cube.specs.Count.{one}
 use Rattle.cube.proofs.Count.{packed_more, packed_all}
 use Rattle.held.proofs.Held.{byte_one, byte_small}
