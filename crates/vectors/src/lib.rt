@@ -24,7 +24,7 @@ fn gather(report: &Report, masks: &mut [u16])
         return;
     }
     for (a, mask) in masks.iter_mut().enumerate() {
-        *mask = held::faulty_links(report.n, report.links, Node(a as u16));
+        *mask = held::faulty_links(report, Node(a as u16));
     }
 }
 
