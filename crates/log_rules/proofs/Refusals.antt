@@ -2,7 +2,7 @@
 use mathlib.Core.Path.{◌≡◌, refl, sym, ap, ◌∙◌}
 use mathlib.Core.Bool.{Bool, true, false, not, cond, ◌&&◌, and-eq-true_iff}
 use mathlib.Core.List.{List, [], ◌∷◌, ◌++◌}
-use Prim.Native.Nat.{ℕ, zero, suc, ◌*◌, ◌^◌, ◌<◌}
+use Prim.Native.Nat.{ℕ, ◌*◌, ◌^◌, ◌<◌}
 use native.Mathlib.Omega.{arith}
 use lib.Dec.{eqb, ltb}
 use lib.ListN.{length, take, drop, length-take}
@@ -113,15 +113,11 @@ sound_next nodes rest row more next s =
 -- and no part of a record follows the last
 pub sound_end : (nodes : ℕ) (rest : List ℕ) → length rest < 8 → sound nodes (records rest) ≡ true → length rest ≡ 0
 unfolding sound
-sound_end nodes rest short s = go (length rest) refl
-  where
-    cut : 0 < length rest → ⊥
-    cut some =
-        let t : sound nodes (take 8 rest ∷ records (drop 8 rest)) ≡ true = sym (ap (sound nodes) (records_cons rest some)) ∙ s in
-        let p = (and-eq-true_iff (eqb (length (take 8 rest)) 8 && ltb (node_in (take 8 rest)) nodes) (sound nodes (records (drop 8 rest)))).0 t in
-        let q = (and-eq-true_iff (eqb (length (take 8 rest)) 8) (ltb (node_in (take 8 rest)) nodes)).0 p.0 in
-        absurd (omega (arith, eqb-true (length (take 8 rest)) 8 q.0, length-take 8 rest))
-
-    go : (k : ℕ) → length rest ≡ k → length rest ≡ 0
-    go zero e = e
-    go (suc k) e = absurd (cut (omega arith))
+sound_end nodes [] short s = refl
+sound_end nodes (x ∷ xs) short s =
+    let r = take 8 (x ∷ xs) in
+    let rs = records (drop 8 (x ∷ xs)) in
+    let t : sound nodes (r ∷ rs) ≡ true = sym (ap (sound nodes) (records_cons (x ∷ xs) (omega arith))) ∙ s in
+    let p = (and-eq-true_iff (eqb (length r) 8 && ltb (node_in r) nodes) (sound nodes rs)).0 t in
+    let q = (and-eq-true_iff (eqb (length r) 8) (ltb (node_in r) nodes)).0 p.0 in
+    absurd (omega (arith, eqb-true (length r) 8 q.0, length-take 8 (x ∷ xs)))
