@@ -128,7 +128,7 @@ fn in_room<const ROOM: usize>(report: &Report, vectors: &mut [u16])
     requires { Fits (reported report.now) vectors.old × (2 ^ report.now.n ≤ ROOM) × (ROOM ≤ 1024) }
     ensures { vectors.new ≡ after (cube (reported report.now)) report.now.n }
 {
-    let nodes: usize = 1 << report.n;
+    let nodes = vectors.len();
     let mut masks = [0u16; ROOM];
     let mut bytes = [1u8; ROOM];
     gather(report, &mut masks[..nodes]);
