@@ -2,7 +2,6 @@
 #![tactic(auto)]
 
 ghost use Rattle.std.specs.Prelude.{◌≡◌, suc, ◌^◌, ◌≤◌, ◌<◌, ◌&&◌, length, replicate};
-ghost use Rattle.cube.specs.Bits.{flip};
 ghost use Rattle.cube.specs.Count.{one, count};
 ghost use Rattle.cube.specs.Reply.{OneAnswer};
 ghost use Rattle.cube.specs.Refusals.{refused_by};
@@ -148,7 +147,7 @@ fn write_vectors(report: &Report, vectors: &mut [u16])
 }
 
 // What is tested before anything is written.
-#[tactic(auto, using(cube::proofs::Refusals::failed, cube::proofs::Refusals::holds, cube::proofs::Refusals::of_test), unfolding(crate::specs::Fill::fill_refusal))]
+#[tactic(auto, using(crate::proofs::Tests::tests_in_turn), unfolding(crate::specs::Fill::fill_refusal))]
 fn tested(report: &Report, vectors: &[u16]) -> Result<(), Refusal>
     ensures { refused_by result ≡ fill_refusal (reported report.now) vectors.now }
 {
