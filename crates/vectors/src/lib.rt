@@ -48,11 +48,11 @@ struct Seen<'a> {
     ghost digits: { Digits bytes.now },
 }
 
+// That a < 2^n stands in three of these contracts: a type for it, beside Node, would be no plainer.
 impl Seen<'_> {
     ghost use Rattle.vectors.specs.Seen.{seen};
 
     // How many of a's neighbours along dimensions 1 to n are registered with the bit shown, if a's faulty links are the mask's.
-    // That a < 2^n is asked three times: a type for it beside Node would be no plainer.
     #[inline(always)]
     fn count(&self, n: u32, mask: u16, a: usize) -> u32
         requires { (n ≤ self.now.report.n) × (a < 2 ^ self.now.report.n) }
