@@ -16,7 +16,7 @@ use Rattle.cube.specs.Bits.{bit, flip}
 use Rattle.cube.specs.Count.{one, pack, count}
 use Rattle.cube.specs.Table.{table}
 use Rattle.cube.proofs.Order.{lt_or_ge, eq_or_ne}
-use Rattle.cube.proofs.Bits.{flip_lt, pow_shift}
+use Rattle.cube.proofs.Bits.{flip_lt}
 use Rattle.cube.proofs.Count.{one_le, one_eqb, bit_pack, pack_lt, pack_cong, pack_zero, one_shift}
 use Rattle.cube.proofs.Table.{length_table, get_or_table, table_ext}
 use Rattle.report.specs.Health.{Cube}
@@ -144,17 +144,17 @@ unfolding masked all_faults faults
 masked_faults n links a i l m =
     ap (λ (w : ℕ). bit w (suc i)) (get_or_table (faults n links) (2 ^ n) a l) ∙ bit_pack (cut links a) n i m
 
--- room for 2^n nodes, as the machine lends it of a longer array
-pub room : (x n k : ℕ) → n < 64 → 2 ^ n ≤ k → take (1 * 2 ^ n % 18446744073709551616) (replicate k x) ≡ replicate (2 ^ n) x
-room x n k h l = ap (λ (m : ℕ). take m (replicate k x)) (pow_shift n 64 h) ∙ take-replicate (2 ^ n) k x l
+-- room for 2^n nodes in a longer array
+pub room : (x n m k : ℕ) → m ≡ 2 ^ n → 2 ^ n ≤ k → take m (replicate k x) ≡ replicate (2 ^ n) x
+room x n m k e h = take-replicate m k x (omega arith) ∙ ap (λ (j : ℕ). replicate j x) e
 
 pub length_faults : (n : ℕ) (links : List ℕ) → length (all_faults n links) ≡ 2 ^ n
 unfolding all_faults
 length_faults n links = length_table (faults n links) (2 ^ n)
 
 -- and the masks that were written there, as they are lent again
-pub lent_again : (n : ℕ) (links masks rest : List ℕ) → n < 64 → masks ≡ all_faults n links → take (1 * 2 ^ n % 18446744073709551616) (masks ++ rest) ≡ all_faults n links
-lent_again n links masks rest h e = take_at masks rest _ (ap length e ∙ length_faults n links ∙ sym (pow_shift n 64 h)) ∙ e
+pub lent_again : (n m : ℕ) (links masks rest : List ℕ) → m ≡ 2 ^ n → masks ≡ all_faults n links → take m (masks ++ rest) ≡ all_faults n links
+lent_again n m links masks rest h e = take_at masks rest m (ap length e ∙ length_faults n links ∙ sym h) ∙ e
 
 -- where no word marks a link, every mask is empty
 pub faults_none : (n : ℕ) (links : List ℕ) → narrow 0 links ≡ true → replicate (2 ^ n) 0 ≡ all_faults n links

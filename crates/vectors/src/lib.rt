@@ -2,7 +2,6 @@
 #![tactic(auto)]
 
 ghost use Rattle.std.specs.Prelude.{◌≡◌, suc, ◌^◌, ◌≤◌, ◌<◌, ◌&&◌, length, replicate};
-ghost use Rattle.cube.specs.Bits.{flip};
 ghost use Rattle.cube.specs.Count.{one, count};
 ghost use Rattle.cube.specs.Reply.{OneAnswer};
 ghost use Rattle.cube.specs.Refusals.{refused_by};
@@ -49,11 +48,11 @@ struct Seen<'a> {
     ghost digits: { Digits bytes.now },
 }
 
+// That a < 2^n stands in three of these contracts: a type for it, beside Node, would be no plainer.
 impl Seen<'_> {
     ghost use Rattle.vectors.specs.Seen.{seen};
 
     // How many of a's neighbours along dimensions 1 to n are registered with the bit shown, if a's faulty links are the mask's.
-    // That a < 2^n is asked three times: a type for it beside Node would be no plainer.
     #[inline(always)]
     fn count(&self, n: u32, mask: u16, a: usize) -> u32
         requires { (n ≤ self.now.report.n) × (a < 2 ^ self.now.report.n) }
@@ -128,7 +127,7 @@ fn in_room<const ROOM: usize>(report: &Report, vectors: &mut [u16])
     requires { Fits (reported report.now) vectors.old × (2 ^ report.now.n ≤ ROOM) × (ROOM ≤ 1024) }
     ensures { vectors.new ≡ after (cube (reported report.now)) report.now.n }
 {
-    let nodes: usize = 1 << report.n;
+    let nodes = vectors.len();
     let mut masks = [0u16; ROOM];
     let mut bytes = [1u8; ROOM];
     gather(report, &mut masks[..nodes]);
@@ -148,7 +147,7 @@ fn write_vectors(report: &Report, vectors: &mut [u16])
 }
 
 // What is tested before anything is written.
-#[tactic(auto, using(cube::proofs::Refusals::failed, cube::proofs::Refusals::holds, cube::proofs::Refusals::of_test), unfolding(crate::specs::Fill::fill_refusal))]
+#[tactic(auto, using(crate::proofs::Tests::tests_in_turn), unfolding(crate::specs::Fill::fill_refusal))]
 fn tested(report: &Report, vectors: &[u16]) -> Result<(), Refusal>
     ensures { refused_by result ≡ fill_refusal (reported report.now) vectors.now }
 {
