@@ -1,7 +1,7 @@
 // One report record: bytes on the wire.
 #![tactic(auto)]
 
-ghost use Rattle.std.specs.Prelude.{◌≡◌, ◌+◌, ◌*◌, ◌^◌, ◌≤◌, length};
+ghost use Rattle.std.specs.Prelude.{◌≡◌, ◌+◌, ◌*◌, ◌^◌, ◌<◌, ◌≤◌, length};
 ghost use Rattle.cube.specs.Refusals.{refused_by};
 ghost use Rattle.cube.specs.Reply.{OneAnswer};
 ghost use Rattle.report.specs.Report.{narrow};
@@ -16,7 +16,7 @@ pub fn word_at(bytes: &[u8], i: usize) -> u16
     ensures { result ≡ word bytes.now i }
 {
     match bytes.get(i..) {
-        Some([low, high, ..]) => u16::from_le_bytes([*low, *high]),
+        Some([low, high, ..]) => u16::from(*low) + 256 * u16::from(*high),
         Some([low]) => u16::from(*low),
         _ => 0,
     }
@@ -33,16 +33,18 @@ fn nodes_of(n: u32) -> usize
 }
 
 // The link word of node a in a record of that many nodes.
+#[tactic(auto, unfolding(crate::specs::Open::word))]
 fn link(bytes: &[u8], nodes: usize, a: usize) -> u16
-    requires { (nodes ≤ 1024) × (a ≤ 1024) }
+    requires { (length bytes.now ≡ 5 + 3 * nodes) × (a < nodes) }
     ensures { result ≡ word bytes.now (5 + nodes + 2 * a) }
 {
-    word_at(bytes, 5 + nodes + 2 * a)
+    let at = 5 + nodes + 2 * a;
+    u16::from(bytes[at]) + 256 * u16::from(bytes[at + 1])
 }
 
 // Whether every link word of a record of that many nodes is below their number.
 fn narrow_links(bytes: &[u8], nodes: usize) -> bool
-    requires { (nodes ≡ 2 ^ n_in bytes.now) × (nodes ≤ 1024) }
+    requires { (nodes ≡ 2 ^ n_in bytes.now) × (length bytes.now ≡ 5 + 3 * nodes) }
     ensures { result ≡ narrow (n_in bytes.now) (links_in bytes.now) }
 {
     (0..nodes).all(|a| usize::from(link(bytes, nodes, a)) < nodes)
@@ -68,7 +70,7 @@ fn tested(bytes: &[u8], status: &[u8], links: &[u16]) -> Result<(), Refusal>
 // Copies the link words of a record to the places lent for them, one for each node.
 #[tactic(auto, using(cube::proofs::Table::written_none, cube::proofs::Table::written_next, cube::proofs::Table::written_all, crate::proofs::Fields::link_at), unfolding(crate::specs::Open::links_in))]
 fn write_links(bytes: &[u8], links: &mut [u16])
-    requires { (length links.old ≡ 2 ^ n_in bytes.now) × (length links.old ≤ 1024) }
+    requires { (length links.old ≡ 2 ^ n_in bytes.now) × (length bytes.now ≡ 5 + 3 * length links.old) }
     ensures { links.new ≡ links_in bytes.now }
 {
     let nodes = links.len();
