@@ -9,7 +9,7 @@ use Rattle.cube.specs.Reply.{Reply, refused, accepted, unless, kept, OneAnswer}
 use Rattle.cube.specs.Refusals.{number_in, saying, refused_by}
 use Rattle.cube.specs.declared.refusal.Refusal.{Refusal}
 use Rattle.cube.specs.declared.refusal.Refusal.TheVariants.{Dimension, Length, WideLink, Outside, BoardLost, DestinationLost, NoWay, Contradiction, NoOffer, Record, LogRecord, LogNode}
-use Rattle.cube.proofs.Reply.{unless_some, kept_some, one_answer}
+use Rattle.cube.proofs.Reply.{unless_some, unless_none, kept_some, kept_none, one_answer}
 
 -- a test that refused didn't hold, and the refusal is its own
 pub failed : (t : Bool) (r e : Refusal) → ◌≡◌ {A = Result (Unit {0}) Refusal} (Err e) (cond t (Ok tt) (Err r)) → (t ≡ false) × (e ≡ r)
@@ -95,3 +95,9 @@ one_answer_by {A = A} {B = B} f back h = one_answer (saying f) undo undone
 pub accepts : {A B : Type 0} (f : A → B) (r : Result A Refusal) (y : B) → saying f r ≡ accepted y → is_ok r ≡ true
 accepts f (Ok x) y e = refl
 accepts f (Err m) y e = absurd (let z : ◌≡◌ {A = ℕ} 0 1 = cc in omega arith)
+
+-- what the check applies at a list of tests, one after another with `?`
+pub ruleset tests_in_turn = (failed, holds, of_test)
+
+-- and at the exits of a job: after a refusal, and past the tests
+pub ruleset refusal_or_answer = (unless_refusal, kept_refusal, unless_none, kept_none)

@@ -51,7 +51,7 @@ fn narrow_links(bytes: &[u8], nodes: usize) -> bool
 }
 
 // What is tested before anything is written.
-#[tactic(auto, using(cube::proofs::Refusals::failed, cube::proofs::Refusals::holds, cube::proofs::Refusals::of_test, report::proofs::Laws::dimension_range), unfolding(crate::specs::Open::open_refusal))]
+#[tactic(auto, using(cube::proofs::Refusals::tests_in_turn, report::proofs::Laws::dimension_range), unfolding(crate::specs::Open::open_refusal))]
 fn tested(bytes: &[u8], status: &[u8], links: &[u16]) -> Result<(), Refusal>
     ensures { refused_by result ≡ open_refusal bytes.now status.now links.now }
 {
@@ -80,7 +80,7 @@ fn write_links(bytes: &[u8], links: &mut [u16])
 }
 
 // Reads a record: gives its n back, and writes its status bytes and link words into the first 2^n places of the lent slices.
-#[tactic(auto, using(crate::proofs::Refusals::reading, cube::proofs::Refusals::unless_refusal, cube::proofs::Refusals::kept_refusal, cube::proofs::Reply::unless_none, cube::proofs::Reply::kept_none), unfolding(crate::specs::Open::opened, crate::specs::Open::status_opened, crate::specs::Open::links_opened, crate::specs::Open::status_in))]
+#[tactic(auto, using(crate::proofs::Refusals::reading, cube::proofs::Refusals::refusal_or_answer), unfolding(crate::specs::Open::opened, crate::specs::Open::status_opened, crate::specs::Open::links_opened, crate::specs::Open::status_in))]
 pub fn open(bytes: &[u8], status: &mut [u8], links: &mut [u16]) -> Result<u32, Refusal>
     ensures answer { said result ≡ opened bytes.now status.old links.old }
     ensures boards { status.new ≡ status_opened bytes.now status.old links.old }

@@ -143,12 +143,13 @@ impl Message<'_> {
         if self.nav.arrived() {
             return Ok(None);
         }
-        proceed(self.mask(self.nav.0, self.nav.weight() - 1))
+        let away = self.nav.weight();
+        proceed(self.mask(self.nav.0, away - 1))
     }
 }
 
 // What Decide tests before its rule, of a message at a for d.
-#[tactic(auto, using(cube::proofs::Refusals::failed, cube::proofs::Refusals::holds, cube::proofs::Refusals::of_test), unfolding(rules::specs::Refusals::decide_refusal))]
+#[tactic(auto, using(cube::proofs::Refusals::tests_in_turn), unfolding(rules::specs::Refusals::decide_refusal))]
 pub fn tested(report: &Report, vectors: &[u16], a: Node, d: Node) -> Result<(), Refusal>
     ensures { refused_by result ≡ decide_refusal (reported report.now) vectors.now a.0 d.0 }
 {

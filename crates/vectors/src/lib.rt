@@ -147,7 +147,7 @@ fn write_vectors(report: &Report, vectors: &mut [u16])
 }
 
 // What is tested before anything is written.
-#[tactic(auto, using(crate::proofs::Tests::tests_in_turn), unfolding(crate::specs::Fill::fill_refusal))]
+#[tactic(auto, using(cube::proofs::Refusals::tests_in_turn), unfolding(crate::specs::Fill::fill_refusal))]
 fn tested(report: &Report, vectors: &[u16]) -> Result<(), Refusal>
     ensures { refused_by result ≡ fill_refusal (reported report.now) vectors.now }
 {

@@ -20,13 +20,13 @@ pub returns-then-arrived : goal.returns-then-arrived
 unfolding at_node
 returns-then-arrived c = rw (weight_none _ (sym c.arrived.ensures ∙ c.if-arrived.true))
 
-pub overflow_sub-weight : goal.overflow_sub-weight
-overflow_sub-weight c = omega (arith, c.weight.ensures, away (goal.at.overflow_sub-weight c).Else-arrived)
+pub overflow_sub-away : goal.overflow_sub-away
+overflow_sub-away c = omega (arith, c.weight-away.ensures, away (goal.at.overflow_sub-away c).Else-arrived)
 
 pub mask-requires : goal.mask-requires
 mask-requires c =
     let m = c.args.self.now in
-    omega (arith, c.weight.ensures, weight_le _ _ m.nav_inside, m.small)
+    omega (arith, c.weight-away.ensures, weight_le _ _ m.nav_inside, m.small)
 
 pub returns : goal.returns
 returns c =
@@ -36,5 +36,5 @@ returns c =
     let bits = own m.vectors.now in
     c.proceed.ensures
     ∙ ap proceed c.mask.ensures
-    ∙ sym (node_away n links bits m.node.0 m.nav.0 c.weight.result (λ z. omega (arith, c.weight.ensures, away (goal.at.returns c).Else-arrived)))
-    ∙ ap (at_node n links bits m.node.0 m.nav.0) c.weight.ensures
+    ∙ sym (node_away n links bits m.node.0 m.nav.0 c.weight-away.result (λ z. omega (arith, c.weight-away.ensures, away (goal.at.returns c).Else-arrived)))
+    ∙ ap (at_node n links bits m.node.0 m.nav.0) c.weight-away.ensures
