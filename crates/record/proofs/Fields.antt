@@ -1,65 +1,48 @@
 -- The laws of a record's fields.
 use mathlib.Core.Path.{◌≡◌, refl, ap}
-use mathlib.Core.Bool.{true, false}
+use mathlib.Core.Bool.{◌&&◌}
 use mathlib.Core.List.{List}
-use Prim.Native.Nat.{ℕ, ◌+◌, ◌*◌, ◌%◌, ◌^◌, ◌≤◌, ◌<◌}
+use Prim.Native.Nat.{ℕ, zero, suc, ◌+◌, ◌*◌, ◌^◌, ◌≤◌}
+use native.Mathlib.Numerals.{add-one}
+use lib.Dec.{ltb}
+use Rattle.std.specs.List.{list_all, range_with_len}
 use native.Mathlib.Omega.{arith}
-use lib.ListN.{length, get_or, drop, length-drop, get_or-eq_default}
+use lib.ListN.{length, drop, length-drop}
+use lib.Pow.{pow_mono}
 use lib.Seq.{length-take-le}
-use Rattle.cube.proofs.Table.{length_table, get_or_table, table_part}
-use Rattle.cube.specs.Table.{table}
+use Rattle.cube.proofs.Table.{length_table}
+use Rattle.cube.specs.Table.{from, table}
 use Rattle.report.specs.Report.{narrow}
-use Rattle.report.proofs.Laws.{narrow_of, wide_of}
 use Rattle.record.specs.Open.{word, n_in, status_in, link_in, links_in}
 
--- how many nodes there are, as the code has it for any n
-pub nodes_known : (n : ℕ) → n ≤ 10 → 2 ^ (n % 16) ≡ 2 ^ n
-nodes_known n h = ap (λ (m : ℕ). 2 ^ m) (let e : n % 16 ≡ n = omega arith in e)
-
--- past the end a word reads as 0
-pub word_past : (bytes : List ℕ) (i : ℕ) → length bytes ≤ i → word bytes i ≡ 0
-unfolding word
-word_past bytes i h = rw (get_or-eq_default bytes 0 h, get_or-eq_default bytes 0 (let l : length bytes ≤ i + 1 = omega arith in l))
-
--- and at the last byte as that byte
-pub word_last : (bytes : List ℕ) (i : ℕ) → length bytes ≡ i + 1 → word bytes i ≡ get_or bytes i 0
-unfolding word
-word_last bytes i h = rw (get_or-eq_default bytes 0 (let l : length bytes ≤ i + 1 = omega arith in l)) (omega arith)
-
--- the status byte of node a
-abbrev pub status_at : List ℕ → ℕ → ℕ
-status_at bytes a = get_or bytes (5 + a) 0
-
--- the status bytes as a table
-pub status_table : (bytes : List ℕ) → 5 + 2 ^ n_in bytes ≤ length bytes → table (status_at bytes) (2 ^ n_in bytes) ≡ status_in bytes
-unfolding status_in
-status_table bytes h = table_part bytes (status_at bytes) 5 (2 ^ n_in bytes) h (λ i. refl)
+-- a cube has at most 1,024 nodes
+pub nodes_le : (n : ℕ) → n ≤ 10 → 2 ^ n ≤ 1024
+nodes_le n h = pow_mono {i = n} {j = 10} h
 
 -- a record long enough has a status byte and a link word for each node
 pub count_status : (bytes : List ℕ) → 5 + 2 ^ n_in bytes ≤ length bytes → length (status_in bytes) ≡ 2 ^ n_in bytes
 unfolding status_in
 count_status bytes h = length-take-le (2 ^ n_in bytes) (drop 5 bytes) (rw length-drop (omega arith))
 
-module _ (bytes : List ℕ) where
-  -- the link word of node a, where the number of nodes is known
-  pub link_at : (nodes a : ℕ) → nodes ≡ 2 ^ n_in bytes → word bytes (5 + nodes + 2 * a) ≡ link_in bytes a
-  unfolding link_in
-  link_at nodes a e = ap (λ (m : ℕ). word bytes (5 + m + 2 * a)) e
+-- the link word of node a, where the number of nodes is known
+pub link_at : (bytes : List ℕ) (nodes a : ℕ) → nodes ≡ 2 ^ n_in bytes → word bytes (5 + nodes + 2 * a) ≡ link_in bytes a
+unfolding link_in
+link_at bytes nodes a e = ap (λ (m : ℕ). word bytes (5 + m + 2 * a)) e
 
-  pub count_links : length (links_in bytes) ≡ 2 ^ n_in bytes
-  unfolding links_in
-  count_links = length_table (link_in bytes) (2 ^ n_in bytes)
+pub count_links : (bytes : List ℕ) → length (links_in bytes) ≡ 2 ^ n_in bytes
+unfolding links_in
+count_links bytes = length_table (link_in bytes) (2 ^ n_in bytes)
 
-  get_or_links : (a : ℕ) → a < 2 ^ n_in bytes → get_or (links_in bytes) a 0 ≡ link_in bytes a
-  unfolding links_in
-  get_or_links a h = get_or_table (link_in bytes) (2 ^ n_in bytes) a h
+-- the words of a table are narrow where each is
+narrow_from : (n : ℕ) (f : ℕ → ℕ) (a k : ℕ) → list_all (λ i. ltb (f i) (2 ^ n)) (range_with_len a k) ≡ narrow n (from f a k)
+unfolding narrow from
+narrow_from n f a zero = refl
+narrow_from n f a (suc k) = ap (λ b. ltb (f a) (2 ^ n) && b) (rw add-one (narrow_from n f (suc a) k))
 
-  -- the link words of a record are narrow where each is
-  pub narrow_links_lem : ((a : ℕ) → a < 2 ^ n_in bytes → link_in bytes a < 2 ^ n_in bytes) → narrow (n_in bytes) (links_in bytes) ≡ true
-  narrow_links_lem all =
-      narrow_of (n_in bytes) (links_in bytes)
-      (λ a h. let l : a < 2 ^ n_in bytes = omega (arith, count_links) in omega (arith, get_or_links a l, all a l))
-
-  -- and are not where one isn't
-  pub wide_links : (a : ℕ) → a < 2 ^ n_in bytes → 2 ^ n_in bytes ≤ link_in bytes a → narrow (n_in bytes) (links_in bytes) ≡ false
-  wide_links a h l = wide_of (n_in bytes) (links_in bytes) a (omega (arith, count_links)) (omega (arith, get_or_links a h))
+-- the link words of a record of that many nodes are
+pub narrow_each :
+    (bytes : List ℕ) (nodes : ℕ) →
+    nodes ≡ 2 ^ n_in bytes →
+    list_all (λ a. ltb (word bytes (5 + nodes + 2 * a)) nodes) (range_with_len 0 nodes) ≡ narrow (n_in bytes) (links_in bytes)
+unfolding links_in link_in table
+narrow_each bytes nodes e = rw e (narrow_from (n_in bytes) (link_in bytes) 0 (2 ^ n_in bytes))

@@ -1,14 +1,14 @@
 -- The refusals of Open: the number that comes first, and what follows where there is none.
-use mathlib.Core.Path.{◌≡◌, refl, ap}
-use mathlib.Core.Bool.{Bool, true, not, cond, ◌&&◌, and-eq-true_iff}
+use mathlib.Core.Path.{◌≡◌, refl, sym}
+use mathlib.Core.Bool.{Bool, true, not, ◌&&◌, and-eq-true_iff}
 use mathlib.Core.List.{List, ◌++◌}
-use Prim.Native.Nat.{ℕ, zero, suc, ◌+◌, ◌-◌, ◌*◌, ◌^◌, ◌≤◌, ◌<◌}
+use Prim.Native.Nat.{ℕ, zero, suc, ◌+◌, ◌-◌, ◌*◌, ◌^◌, ◌≤◌}
 use native.Mathlib.Omega.{arith}
-use borrow.Author.Tests.{lt-ltb, le-ltb, eqb-true, leb-true, ltb-false, not-false}
+use borrow.Author.Tests.{eqb-true, leb-true, ltb-false, not-false}
 use lib.Dec.{leb, ltb, eqb}
 use lib.ListN.{length, drop}
 use Rattle.cube.specs.Reply.{refused, accepted, refusal, unless, kept}
-use Rattle.cube.proofs.Reply.{passed, later, refusal_le}
+use Rattle.cube.proofs.Reply.{passed, refusal_le}
 use Rattle.report.specs.Report.{dimension, narrow}
 use Rattle.report.proofs.Laws.{dimension_range}
 use Rattle.record.specs.Open.{length_in, kind_in, n_in, status_in, links_in, open_refusal, opened, status_opened, links_opened}
@@ -16,38 +16,6 @@ use Rattle.record.specs.Open.{length_in, kind_in, n_in, status_in, links_in, ope
 -- both lent slices have 2^n places
 abbrev room : List ℕ → List ℕ → List ℕ → Bool
 room bytes status links = leb (2 ^ n_in bytes) (length status) && leb (2 ^ n_in bytes) (length links)
-
--- under five bytes
-pub refuse_short : (bytes status links : List ℕ) → length bytes < 5 → open_refusal bytes status links ≡ 10
-unfolding open_refusal refusal
-refuse_short bytes status links h = rw (lt-ltb (length bytes) 5 h)
-
--- The chain as the code has it: the number of nodes and the link words are looked at only where the tests before them pass.
-pub chain : (bytes status links : List ℕ) (nodes : ℕ) (sound : Bool) → 5 ≤ length bytes
-    → (n_in bytes ≤ 10 → nodes ≡ 2 ^ n_in bytes)
-    → (nodes ≡ 2 ^ n_in bytes → length bytes ≡ 5 + 3 * nodes → sound ≡ narrow (n_in bytes) (links_in bytes))
-    → cond (not (eqb (length_in bytes) (length bytes - 2))) 10
-    (cond (not (eqb (kind_in bytes) 1)) 10
-    (cond (not (dimension (n_in bytes))) 1
-    (cond (not (eqb (length_in bytes) (3 + 3 * nodes))) 10
-    (cond (not (leb nodes (length status) && leb nodes (length links))) 2
-    (cond (not sound) 3 0)))))
-    ≡ open_refusal bytes status links
-unfolding open_refusal refusal
-chain bytes status links nodes sound h count look =
-    rw (le-ltb (length bytes) 5 h)
-    (later (eqb (length_in bytes) (length bytes - 2)) 10 _ _ (λ total.
-    later (eqb (kind_in bytes) 1) 10 _ _ (λ kind.
-    later (dimension (n_in bytes)) 1 _
-    (cond (not (eqb (length_in bytes) (3 + 3 * 2 ^ n_in bytes))) 10
-    (cond (not (room bytes status links)) 2
-    (cond (not (narrow (n_in bytes) (links_in bytes))) 3 0)))
-    (λ dim.
-    let e = count (dimension_range (n_in bytes) dim).1 in
-    rw e
-    (later (eqb (length_in bytes) (3 + 3 * 2 ^ n_in bytes)) 10 _ _ (λ size.
-    ap (λ (b : Bool). cond (not (room bytes status links)) 2 (cond (not b) 3 0))
-    (look e (omega (arith, e, h, eqb-true (length_in bytes) (length bytes - 2) total, eqb-true (length_in bytes) (3 + 3 * 2 ^ n_in bytes) size)))))))))
 
 -- no number is above 10
 pub open_refusal_le : (bytes status links : List ℕ) → open_refusal bytes status links ≤ 10
@@ -97,6 +65,13 @@ readable bytes status links none =
       links_room = leb-true _ _ both.1;
       narrow_links = not-false _ wide.0;
     }
+
+-- what Open may count on where nothing is refused
+pub reading :
+    (bytes status links : List ℕ) →
+    0 ≡ open_refusal bytes status links →
+    (n_in bytes ≤ 10) × ((length bytes ≡ 5 + 3 * 2 ^ n_in bytes) × ((2 ^ n_in bytes ≤ length status) × (2 ^ n_in bytes ≤ length links)))
+reading bytes status links none = let r = readable bytes status links (sym none) in (r.dimensions, (r.size, (r.status_room, r.links_room)))
 
 -- what Open answers and leaves behind
 module _ (bytes status links : List ℕ) where

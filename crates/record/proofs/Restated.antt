@@ -1,11 +1,12 @@
 -- The laws of a restated record: which bytes it keeps, and what its fields are.
 use mathlib.Core.Path.{◌≡◌, refl, sym, ap, ◌∙◌}
 use mathlib.Core.List.{List, ◌++◌, append_assoc}
-use Prim.Native.Nat.{ℕ, ◌+◌, ◌*◌, ◌^◌, ◌≤◌, ◌<◌}
+use Prim.Native.Nat.{ℕ, ◌+◌, ◌-◌, ◌*◌, ◌^◌, ◌≤◌, ◌<◌}
 use native.Mathlib.Omega.{arith}
 use borrow.Author.Tests.{le-leb, lt-leb}
 use lib.ListN.{length, get_or, take, drop}
-use lib.Seq.{paste, length-paste, take-length, take_at, drop_at, get_or-take, get_or-drop, length-take-le, drop-paste}
+use borrow.Rule.Slice.PartMut.{put_mid}
+use lib.Seq.{paste, drop-drop, length-paste, take-length, take_at, drop_at, get_or-take, get_or-drop, length-take-le, drop-paste}
 use Rattle.cube.specs.Table.{table}
 use Rattle.cube.proofs.Table.{table_ext, length_table, get_or_table}
 use Rattle.cube.specs.Reply.{refusal}
@@ -33,6 +34,12 @@ module _ (bytes given : List ℕ) (room : 5 + length given ≤ length bytes) whe
   restated_split : restated bytes given ≡ take 5 bytes ++ (given ++ drop (5 + length given) bytes)
   unfolding restated
   restated_split = rw (le-leb (5 + length given) (length bytes) room) from_sixth
+
+  -- which is what a write to them leaves
+  pub restated_put : put_mid 5 (5 + length given - 5) bytes given ≡ restated bytes given
+  restated_put =
+      let e : 5 + length given - 5 ≡ length given = omega arith in
+      rw (e, drop-drop (length given) 5 bytes) (sym restated_split)
 
   five : length (take 5 bytes) ≡ 5
   five = length-take-le 5 bytes (omega arith)

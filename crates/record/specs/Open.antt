@@ -1,10 +1,10 @@
 -- Open: reads a report record. All numbers are little-endian.
-use Rattle.std.specs.Prelude.{ℕ, ◌+◌, ◌-◌, ◌*◌, ◌^◌, not, ◌&&◌, List, [], ◌∷◌, ◌++◌, eqb, ltb, leb, length, get_or, take, drop}
-use Rattle.cube.specs.Reply.{Reply, refused, accepted, refusal, unless, kept}
+use Rattle.std.specs.Prelude.{ℕ, ◌+◌, ◌-◌, ◌*◌, ◌^◌, not, ◌&&◌, List, [], ◌∷◌, ◌++◌, eqb, ltb, leb, length, get_or, take, drop, Result}
+use Rattle.cube.specs.Reply.{Reply, accepted, refusal, unless, kept}
+use Rattle.cube.specs.Refusals.{saying}
+use Rattle.cube.specs.declared.refusal.Refusal.{Refusal}
 use Rattle.cube.specs.Table.{table}
 use Rattle.report.specs.Report.{dimension, narrow}
-use Rattle.record.specs.declared.Opened.{Opened}
-use Rattle.record.specs.declared.Opened.TheVariants.{Cube, Refused}
 
 -- the two bytes at i as a number
 unfoldable pub word : List ℕ → ℕ → ℕ
@@ -60,6 +60,5 @@ unfolding open_refusal kept links_in
 links_opened bytes status links = kept (open_refusal bytes status links) (links_in bytes ++ drop (2 ^ n_in bytes) links) links
 
 -- what each case of the answer says
-abbrev pub said : Opened → Reply ℕ
-said (Cube n) = accepted n
-said (Refused m) = refused m
+abbrev pub said : Result ℕ Refusal → Reply ℕ
+said = saying (λ n. n)
