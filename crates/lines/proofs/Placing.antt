@@ -64,3 +64,7 @@ put_whole {t} {old} {new} {r} p h =
     let whole : new ≡ t ++ drop r old = p.stands ∙ sets-eq t old 0 (omega arith) ∙ ap (λ (k : ℕ). t ++ drop k old) end in
     let long : r ≤ length new = omega (arith, put_length p) in
     ((long, sym (length-take-le r new long)), (size, whole))
+
+pub puts_whole : {t : List ℕ} {old new : Page} → Puts t old new → old.at ≡ 0 → length t ≤ length old.out.now
+    → IsPrefixLen new.at new.out.now × ((new.at ≡ length t) × (new.out.now ≡ t ++ drop new.at old.out.now))
+puts_whole p start h = put_whole (rw start at p.put) h
