@@ -2,70 +2,66 @@
 #![tactic(auto)]
 
 ghost use Rattle.std.specs.Prelude.{◌≡◌, cond, leb, [], ◌∷◌};
-ghost use Rattle.cube.specs.Count.{one};
+ghost use Rattle.cube.specs.Refusals.{refused_by};
 ghost use Rattle.cube.specs.Reply.{refusal};
-ghost use Rattle.log_rules.specs.Log.{age, age_byte};
+ghost use Rattle.log_rules.specs.Log.{age, age_byte, well_formed};
 ghost use Rattle.log_rules.specs.Refresh.{tests, younger};
 
-use cube::Node;
+use cube::{Node, Refusal};
 use record::word_at;
 
-// A record's length and kind as one number: 6, and 2 above it.
-const HEAD: u32 = 6 + 65536 * 2;
-
 // A record's age: the present sweep less its own, wrapping.
+#[tactic(auto, using(log_rules::proofs::Bytes::age_wraps))]
 pub fn age(row: &[u8], sweep: u16) -> u16
     ensures { result ≡ age sweep row.now }
 {
-    std::num::wrapping_sub_u16(sweep, word_at(row, 4))
+    sweep.wrapping_sub(word_at(row, 4))
 }
 
-// 1 for an age from the future, else 0.
-pub fn skip(age: u16) -> usize
-    ensures { result ≡ one (leb 32768 age) }
+// Whether an age is from the future.
+pub fn is_future(age: u16) -> bool
+    ensures { result ≡ leb 32768 age }
 {
-    (age / 32768) as usize
+    32768 <= age
 }
 
 // The status byte of an age, 0 for one from the future.
+#[tactic(auto, using(log_rules::proofs::Bytes::byte_ahead, log_rules::proofs::Bytes::byte_aged))]
 pub fn byte_of(age: u16) -> u8
     ensures { result ≡ cond (leb 32768 age) 0 (age_byte age) }
 {
-    if 32768 <= age {
-        return 0;
+    if is_future(age) {
+        0
+    } else {
+        (age + 1).min(253) as u8
     }
-    if 252 < age {
-        return 253;
-    }
-    age as u8 + 1
 }
 
 // The younger of two status bytes, 0 being none.
+#[tactic(auto, using(log_rules::proofs::Bytes::none_younger, log_rules::proofs::Bytes::younger_none, log_rules::proofs::Bytes::younger_min))]
 pub fn younger(b: u8, c: u8) -> u8
     ensures { result ≡ younger b c }
 {
-    if b == 0 {
-        return c;
+    match (b, c) {
+        (0, _) => c,
+        (_, 0) => b,
+        _ => b.min(c),
     }
-    if c == 0 {
-        return b;
-    }
-    if b < c { b } else { c }
 }
 
-// The number of a record's refusal, 0 for none.
-pub fn record_refusal(row: &[u8], n: u32) -> u32
-    ensures { result ≡ refusal (tests n (row.now ∷ [])) }
+// Whether a record is whole, its length 6 and its kind 2.
+#[tactic(auto, unfolding(log_rules::specs::Log::well_formed))]
+fn is_well_formed(row: &[u8]) -> bool
+    ensures { result ≡ well_formed row.now }
 {
-    if row.len() != 8 {
-        return 11;
-    }
-    let head = word_at(row, 0) as u32 + 65536 * word_at(row, 2) as u32;
-    if head != HEAD {
-        return 11;
-    }
-    if !report::has_node(n, Node(word_at(row, 6))) {
-        return 12;
-    }
-    0
+    row.len() == 8 && word_at(row, 0) == 6 && word_at(row, 2) == 2
+}
+
+// A record's refusal, if it has one.
+#[tactic(auto, using(cube::proofs::Refusals::failed, cube::proofs::Refusals::holds, cube::proofs::Refusals::of_test), unfolding(cube::specs::Reply::refusal, log_rules::specs::Refresh::tests))]
+pub fn check(row: &[u8], n: u32) -> Result<(), Refusal>
+    ensures { refused_by result ≡ refusal (tests n (row.now ∷ [])) }
+{
+    Refusal::LogRecord.unless(is_well_formed(row))?;
+    Refusal::LogNode.unless(report::has_node(n, Node(word_at(row, 6))))
 }
