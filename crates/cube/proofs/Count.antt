@@ -428,6 +428,13 @@ self_lt : (x : ℕ) → x < 2 ^ x
 self_lt zero = pow_pos 0
 self_lt (suc x) = omega (arith, self_lt x)
 
+-- so of all numbers
+pub xor_twice : (a x : ℕ) → bit_xor a (bit_xor a x) ≡ x
+xor_twice a x =
+    xor_cancel (a + x) a x
+    (lt_of_lt_of_le (self_lt a) (pow_mono {i = a} {j = a + x} (omega arith)))
+    (lt_of_lt_of_le (self_lt x) (pow_mono {i = x} {j = a + x} (omega arith)))
+
 place_lt : (n i : ℕ) → place i < 2 ^ (n + i)
 unfolding place
 place_lt n zero = pow_pos (n + 0)

@@ -1,18 +1,20 @@
 -- What is read off Fill's table is Definition 1.
 use mathlib.Core.Path.{◌≡◌, refl, ap, sym, ◌∙◌}
-use mathlib.Core.Bool.{true, false, and-eq-true_iff}
+use mathlib.Core.Bool.{Bool, true, false, and-eq-true_iff}
+use mir.Val.{bool_byte}
 use mathlib.Core.List.{List}
 use Prim.Native.Nat.{ℕ, zero, suc, ◌+◌, ◌*◌, ◌/◌, ◌%◌, ◌^◌, ◌≤◌, ◌<◌}
 use native.Mathlib.Numerals.{add-one, one-add}
 use native.Mathlib.Omega.{arith}
-use borrow.Author.Tests.{le-leb, eq-eqb, lt-ltb, leb-true, ltb-true, eqb-true}
+use borrow.Author.Tests.{le-leb, eq-eqb, ne_eqb, lt-ltb, leb-true, ltb-true, eqb-true}
+use lib.Dec.{eqb}
 use lib.Pow.{shr-shr}
 use lib.ListN.{length, get_or-eq_default}
-use Rattle.cube.specs.Bits.{bit}
+use Rattle.cube.specs.Bits.{bit, flip}
 use Rattle.report.specs.Report.{cut}
 use Rattle.cube.specs.Count.{one, pack}
 use Rattle.cube.proofs.Count.{one_bit_next}
-use Rattle.cube.proofs.Bits.{bit_high}
+use Rattle.cube.proofs.Bits.{bit_zero, bit_high, flip_lt}
 use Rattle.report.specs.Health.{Cube}
 use Rattle.safety.specs.Safety.{registered, safe, vectors}
 use Rattle.held.specs.Held.{held, own, fits, heard}
@@ -69,3 +71,30 @@ held_digit w (suc k) =
 -- a bit below 32 as the machine names it
 pub held_mod : (w k r : ℕ) → k < 32 → r ≡ one (held w (k % 32)) → r ≡ one (held w k)
 held_mod w k r h e = e ∙ ap (λ (j : ℕ). one (held w j)) (let m : k % 32 ≡ k = omega arith in m)
+
+-- a truth value as the machine's number
+pub byte_one : (b : Bool) → bool_byte b ≡ one b
+byte_one true = refl
+byte_one false = refl
+
+pub byte_small : (b : Bool) → bool_byte b ≤ 1
+byte_small true = omega arith
+byte_small false = omega arith
+
+-- a bit below 32 as a truth value
+pub held_is : (w k r : ℕ) → k < 32 → r ≡ one (held w (k % 32)) → eqb r 1 ≡ held w k
+held_is w k r h e = ap (λ (x : ℕ). eqb x 1) (held_mod w k r h e) ∙ one_is (held w k)
+  where
+    one_is : (b : Bool) → eqb (one b) 1 ≡ b
+    one_is true = refl
+    one_is false = refl
+
+-- the word 0 has bit 0 alone
+pub held_none : (k : ℕ) → held 0 k ≡ eqb k 0
+unfolding held
+held_none zero = refl
+held_none (suc k) = bit_zero (suc k) ∙ sym (ne_eqb (suc k) 0 (λ e. omega arith))
+
+-- a node and its neighbours lie in slices of the cube's size
+pub reach : (n : ℕ) (links : List ℕ) (a i : ℕ) → (n ≤ 10) × (a < 2 ^ n) × (length links ≡ 2 ^ n) → i < n → (i < 16) × (a < length links) × (flip a (suc i) < length links)
+reach n links a i p l = (omega (arith, p.0), rw p.2 p.1, rw p.2 (flip_lt n a (suc i) p.1 (omega arith)))

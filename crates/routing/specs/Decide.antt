@@ -1,10 +1,11 @@
--- What each case of Decide's answer says.
-use Rattle.cube.specs.Reply.{Reply, refused, accepted}
+-- What Decide answers, in the words of the rules.
+use Rattle.std.specs.Prelude.{Result}
+use Rattle.cube.specs.Reply.{Reply}
+use Rattle.cube.specs.Refusals.{saying}
+use Rattle.cube.specs.declared.refusal.Refusal.{Refusal}
 use Rattle.rules.specs.Rules.{Choice, home, assured, lent, detour}
 use Rattle.routing.specs.declared.Kind.{Kind}
 use Rattle.routing.specs.declared.Kind.TheVariants.{Home, Assured, Lent, Detour}
-use Rattle.routing.specs.declared.Decision.{Decision}
-use Rattle.routing.specs.declared.Decision.TheVariants.{Accepted, Refused}
 
 -- what each kind says
 abbrev pub chosen : Kind → Choice
@@ -14,6 +15,5 @@ chosen (Lent o) = lent o.mask o.hops
 chosen (Detour o) = detour o.mask o.hops
 
 -- the answer in the words of the rules
-abbrev pub said : Decision → Reply Choice
-said (Accepted k) = accepted (chosen k)
-said (Refused m) = refused m
+abbrev pub said : Result Kind Refusal → Reply Choice
+said = saying chosen

@@ -1,11 +1,15 @@
--- What each case of Hop's answer says.
-use Rattle.cube.specs.Reply.{Reply, refused, accepted}
+-- What Hop answers, in the words of the rules.
+use Rattle.std.specs.Prelude.{ℕ, Option, Some, None, Result}
+use Rattle.cube.specs.Reply.{Reply}
+use Rattle.cube.specs.Refusals.{saying}
+use Rattle.cube.specs.declared.refusal.Refusal.{Refusal}
 use Rattle.rules.specs.Rules.{Next, arrived, onward}
-use Rattle.routing.specs.declared.Step.{Step}
-use Rattle.routing.specs.declared.Step.TheVariants.{Arrived, Offered, Refused}
+
+-- the mask of an offer, or none once the message has arrived
+abbrev pub next : Option ℕ → Next
+next (Some mask) = onward mask
+next None = arrived
 
 -- the answer in the words of the rules
-abbrev pub said : Step → Reply Next
-said Arrived = accepted arrived
-said (Offered mask) = accepted (onward mask)
-said (Refused m) = refused m
+abbrev pub said : Result (Option ℕ) Refusal → Reply Next
+said = saying next

@@ -1,12 +1,16 @@
 -- When nothing refuses a message before the rules.
-use mathlib.Core.Path.{◌≡◌}
-use mathlib.Core.Bool.{true, not, cond, ◌&&◌, and-eq-true_iff}
+use mathlib.Core.Path.{◌≡◌, ap, sym, ◌∙◌}
+use mathlib.Core.Logic.{◌⊎◌, inl, inr, ⊎_elim}
+use mathlib.Core.Bool.{Bool, true, not, cond, ◌&&◌, and-eq-true_iff}
 use mathlib.Core.List.{List}
 use Prim.Native.Nat.{ℕ, ◌≤◌, ◌<◌, ◌^◌}
 use native.Mathlib.Omega.{arith}
-use borrow.Author.Tests.{not-false, eqb-true, ltb-true, lt-ltb}
-use lib.Bits.{bit_xor}
+use borrow.Author.Tests.{not-false, eqb-true, ltb-true, lt-ltb, le-ltb}
+use lib.Bits.{bit_xor, xor_lt}
+use lib.Dec.{ltb}
 use lib.ListN.{length}
+use Rattle.cube.proofs.Order.{lt_or_ge}
+use Rattle.cube.proofs.Count.{xor_twice}
 use Rattle.cube.proofs.Reply.{passed, refusal_le}
 use Rattle.report.specs.Report.{Report, cube, dimension, sized, all_sized, within}
 use Rattle.rules.specs.Refusals.{decide_refusal, hop_refusal}
@@ -19,6 +23,24 @@ pub record Clear (R : Report) (vectors : List ℕ) (a b d : ℕ) : Type 0 where
   pub other : b < 2 ^ R.dim
   pub here : (cube R).works a ≡ true
   pub there : (cube R).works d ≡ true
+
+-- a relative address lies in the cube exactly if what lies at it from a node does
+inside : (n a nav : ℕ) → (within n a && within n nav) ≡ (within n a && within n (bit_xor a nav))
+unfolding within
+inside n a nav = ⊎_elim node none (lt_or_ge a (2 ^ n))
+  where
+    same : a < 2 ^ n → nav < 2 ^ n ⊎ 2 ^ n ≤ nav → ltb nav (2 ^ n) ≡ ltb (bit_xor a nav) (2 ^ n)
+    same h (inl l) = lt-ltb nav (2 ^ n) l ∙ sym (lt-ltb (bit_xor a nav) (2 ^ n) (xor_lt n a nav h l))
+    same h (inr g) = le-ltb nav (2 ^ n) g ∙ sym (le-ltb (bit_xor a nav) (2 ^ n) (⊎_elim
+        (λ (l : bit_xor a nav < 2 ^ n). let back : nav < 2 ^ n = (rw (xor_twice a nav) at (xor_lt n a (bit_xor a nav) h l)) in absurd (omega (arith, back, g)))
+        (λ (k : 2 ^ n ≤ bit_xor a nav). k)
+        (lt_or_ge (bit_xor a nav) (2 ^ n))))
+
+    node : a < 2 ^ n → (ltb a (2 ^ n) && ltb nav (2 ^ n)) ≡ (ltb a (2 ^ n) && ltb (bit_xor a nav) (2 ^ n))
+    node h = ap (λ (t : Bool). ltb a (2 ^ n) && t) (same h (lt_or_ge nav (2 ^ n)))
+
+    none : 2 ^ n ≤ a → (ltb a (2 ^ n) && ltb nav (2 ^ n)) ≡ (ltb a (2 ^ n) && ltb (bit_xor a nav) (2 ^ n))
+    none h = rw (le-ltb a (2 ^ n) h)
 
 module _ (R : Report) (vectors : List ℕ) where
   module _ (a b d : ℕ) where
@@ -85,3 +107,12 @@ module _ (R : Report) (vectors : List ℕ) where
   pub hop_none : (a nav : ℕ) → Clear R vectors a nav (bit_xor a nav) → hop_refusal R vectors a nav ≡ 0
   unfolding hop_refusal
   hop_none a nav c = rw (c.dim, c.sizes, lt-ltb a (2 ^ R.dim) c.node, lt-ltb nav (2 ^ R.dim) c.other, c.here, c.there)
+
+  -- Hop's tests are Decide's for the destination that lies at the relative address
+  pub hop_as_decide : (a nav : ℕ) → hop_refusal R vectors a nav ≡ decide_refusal R vectors a (bit_xor a nav)
+  unfolding hop_refusal decide_refusal
+  hop_as_decide a nav =
+      ap (λ (t : Bool). cond (not (dimension R.dim)) 1
+      (cond (not (all_sized R vectors)) 2
+      (cond (not t) 4 (cond (not ((cube R).works a)) 5 (cond (not ((cube R).works (bit_xor a nav))) 6 0)))))
+      (inside R.dim a nav)

@@ -3,16 +3,14 @@ use mathlib.Core.Path.{ap, ◌∙◌}
 use Prim.Native.Nat.{ℕ, suc}
 use lib.ListN.{get_or}
 use Rattle.cube.specs.Bits.{bit}
-use Rattle.cube.specs.Count.{one, pack}
+use Rattle.cube.specs.Count.{pack}
 use Rattle.report.specs.Report.{joint}
 use Rattle.report.proofs.Laws.{cut_joint}
 use Rattle.held.proofs.faulty.Goals as goal
 
 pub returns : goal.returns
+unfolding bit
 returns c =
     let a = c.args in
-    let words = c.joint-word.ensures ∙ ap (λ (b : ℕ). pack (joint (get_or a.links.now a.a 0) (get_or a.links.now b 0)) 16) c.across-b.ensures in
-    record {
-      digit = c.marked.ensures.digit ∙ ap one (ap (λ (w : ℕ). bit w (suc a.i)) words ∙ cut_joint a.links.now a.a a.i c.requires.0);
-      small = c.marked.ensures.small;
-    }
+    ap (λ (w : ℕ). bit w (suc a.i)) (c.joint-word.ensures ∙ ap (λ (b : ℕ). pack (joint (get_or a.links.now a.a 0) (get_or a.links.now b 0)) 16) c.across.ensures)
+    ∙ cut_joint a.links.now a.a a.i c.requires.0

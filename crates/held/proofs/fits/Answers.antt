@@ -2,12 +2,14 @@
 use native.Mathlib.Omega.{arith}
 use borrow.Author.Tests.{le-leb, lt-leb}
 use Rattle.cube.proofs.Bits.{pow_shift}
-use Rattle.report.specs.Report.{within}
+use Rattle.report.specs.Report.{sized}
+use Rattle.held.specs.Held.{fits}
 use Rattle.held.proofs.fits.Goals as goal
 
-pub returns-then-n-gt10 : goal.returns-then-n-gt10
-returns-then-n-gt10 c = rw (lt-leb _ 10 c.if-n-gt10.true)
+pub returns-then-report-le10 : goal.returns-then-report-le10
+unfolding fits sized
+returns-then-report-le10 c = rw (le-leb _ 10 c.if-report-le10.true, pow_shift c.args.report.now.n 64 (omega arith), c.has_node.ensures)
 
-pub returns : goal.returns
-unfolding within
-returns c = rw (le-leb _ 10 c.if-n-gt10.false, pow_shift c.args.n 64 (omega arith))
+pub returns-else-report-le10 : goal.returns-else-report-le10
+unfolding fits sized
+returns-else-report-le10 c = rw (lt-leb _ 10 c.if-report-le10.false)

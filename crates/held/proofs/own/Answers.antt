@@ -1,15 +1,13 @@
 -- `held::own` meets its contract.
 use mathlib.Core.Path.{ap, sym, ◌∙◌}
-use Rattle.cube.specs.Count.{one}
-use Rattle.held.specs.Held.{own}
-use Rattle.held.proofs.Held.{own_past}
+use Prim.Native.Nat.{ℕ}
+use Rattle.held.specs.Held.{held, own}
+use Rattle.held.proofs.Held.{held_none, own_past}
 use Rattle.held.proofs.own.Goals as goal
 
-pub returns-then-vectors-at : goal.returns-then-vectors-at
-returns-then-vectors-at c =
-    let a = c.args in
-    c.own_of.ensures ∙ sym (ap one (own_past a.vectors.now a.k a.a.0 c.if-vectors-at.true))
-
-pub returns : goal.returns
+pub returns-in-Some : goal.returns-in-Some
 unfolding own
-returns c = c.own_of-2.ensures
+returns-in-Some c = c.has.ensures ∙ ap (λ (w : ℕ). held w c.args.k) (c.in-Some.ensures.lookup.3.1 0)
+
+pub returns-in-None : goal.returns-in-None
+returns-in-None c = sym (own_past _ _ _ c.in-None.ensures.lookup.3 ∙ held_none _)

@@ -9,4 +9,4 @@ unfolding choose
 returns-then-p-eq0 c = λ q. rw c.if-p-eq0.true
 
 pub returns : goal.returns
-returns c = λ q. sym (choose_assured c.args.p q c.args.h c.if-p-eq0.false)
+returns c = λ q. sym (choose_assured c.args.p q c.args.hops c.if-p-eq0.false)

@@ -9,4 +9,4 @@ unfolding choose
 returns-then-q-eq0 c = rw c.if-q-eq0.true
 
 pub returns : goal.returns
-returns c = sym (choose_detour c.args.q c.args.h c.if-q-eq0.false)
+returns c = sym (choose_detour c.args.q c.args.hops c.if-q-eq0.false)

@@ -1,27 +1,23 @@
 -- `said` tells the decisions apart.
 use mathlib.Core.Path.{◌≡◌, refl}
-use Rattle.cube.specs.Reply.{Reply, refused, accepted}
-use Rattle.cube.proofs.Reply.{one_answer}
+use Rattle.cube.proofs.Refusals.{one_answer_by}
 use Rattle.rules.specs.Rules.{Choice, home, assured, lent, detour}
-use Rattle.routing.specs.Decide.{said}
+use Rattle.routing.specs.Decide.{chosen}
+use Rattle.routing.specs.declared.Kind.{Kind}
 use Rattle.routing.specs.declared.Kind.TheVariants.{Home, Assured, Lent, Detour}
-use Rattle.routing.specs.declared.Decision.{Decision}
-use Rattle.routing.specs.declared.Decision.TheVariants.{Accepted, Refused}
 use Rattle.routing.proofs.one_decision.Goals as goal
 
-abbrev back : Reply Choice → Decision
-back (accepted home) = Accepted Home
-back (accepted (assured p h)) = Accepted (Assured (record { mask = p; hops = h }))
-back (accepted (lent p h)) = Accepted (Lent (record { mask = p; hops = h }))
-back (accepted (detour q h)) = Accepted (Detour (record { mask = q; hops = h }))
-back (refused m) = Refused m
+abbrev back : Choice → Kind
+back home = Home
+back (assured p h) = Assured (record { mask = p; hops = h })
+back (lent p h) = Lent (record { mask = p; hops = h })
+back (detour q h) = Detour (record { mask = q; hops = h })
 
-back_said : (r : Decision) → back (said r) ≡ r
-back_said (Accepted Home) = refl
-back_said (Accepted (Assured o)) = refl
-back_said (Accepted (Lent o)) = refl
-back_said (Accepted (Detour o)) = refl
-back_said (Refused m) = refl
+back_chosen : (k : Kind) → back (chosen k) ≡ k
+back_chosen Home = refl
+back_chosen (Assured o) = refl
+back_chosen (Lent o) = refl
+back_chosen (Detour o) = refl
 
 pub returns : goal.returns
-returns c = one_answer said back back_said
+returns c = one_answer_by chosen back back_chosen
