@@ -2,15 +2,18 @@
 use mathlib.Core.Path.{◌≡◌, refl, ap, ap₂, sym, ◌∙◌}
 use mathlib.Core.Bool.{Bool, true, false, not, ◌&&◌}
 use mathlib.Core.Logic.{⊎_elim}
-use mathlib.Core.List.{List}
+use mathlib.Core.List.{List, ◌++◌}
+use Rattle.std.proofs.lemmas.List.{take_at}
 use Prim.Native.Nat.{ℕ, zero, suc, ◌+◌, ◌-◌, ◌*◌, ◌%◌, ◌^◌, ◌≤◌, ◌<◌}
 use native.Mathlib.Nat.{le_trans, le_of_eq}
 use native.Mathlib.Omega.{arith}
-use lib.Dec.{eqb}
+use lib.Dec.{eqb, ltb}
+use borrow.Author.Tests.{lt-ltb, le-ltb}
+use mir.Val.{bool_byte}
 use lib.ListN.{length, get_or, take, set, length-set, replicate, length-replicate, get_or-replicate, get_or-eq_default}
 use lib.Seq.{get_or-set_same, get_or-set_other}
 use Rattle.cube.specs.Bits.{bit, flip}
-use Rattle.cube.specs.Count.{one, pack}
+use Rattle.cube.specs.Count.{one, pack, count}
 use Rattle.cube.specs.Table.{table}
 use Rattle.cube.proofs.Order.{lt_or_ge, eq_or_ne}
 use Rattle.cube.proofs.Bits.{flip_lt, bit_zero, pow_shift}
@@ -22,7 +25,7 @@ use Rattle.report.proofs.Laws.{cut_none}
 use Rattle.safety.specs.Safety.{registered, supported, safe, bits_of, vector, vectors}
 use Rattle.held.specs.Held.{own}
 use Rattle.vectors.specs.Rounds.{up_to, after, digit, shown, Digits, faults, all_faults, masked, known}
-use Rattle.safety.proofs.Safety.{recurrence, supported_cong, safe_cong}
+use Rattle.safety.proofs.Safety.{recurrence, supported_cong, safe_cong, too_few, enough}
 
 pub record Midst (C : Cube) (k j : ℕ) (vs : List ℕ) : Type 0 where
   pub long : length vs ≡ 2 ^ C.dim
@@ -120,6 +123,14 @@ shown_next C k vs bytes ev eb h a l =
     same : (b : ℕ) → b < 2 ^ C.dim → shown bytes b ≡ safe C k b
     same b m = ap (λ (xs : List ℕ). shown xs b) eb ∙ shown_of vs k (2 ^ C.dim) b m ∙ ap (λ (xs : List ℕ). own xs k b) ev ∙ after_own C k b m
 
+-- the next bit as the machine tells it by the sum
+pub bit_by_sum : (C : Cube) (bits : ℕ → Bool) (k a s : ℕ) → s ≡ count (registered C.cut bits a) C.dim → bool_byte (ltb (C.dim - (k + 1)) s) ≡ one (supported C bits (suc k) a)
+unfolding supported
+bit_by_sum C bits k a s e =
+    ⊎_elim (λ (h : C.dim - (k + 1) < s). ap bool_byte (lt-ltb _ _ h) ∙ sym (ap one (enough C bits (suc k) a (omega arith))))
+    (λ (h : s ≤ C.dim - (k + 1)). ap bool_byte (le-ltb _ _ h) ∙ sym (ap one (too_few C bits (suc k) a (omega arith))))
+    (lt_or_ge (C.dim - (k + 1)) s)
+
 -- before the first round every byte is 1
 pub digits_first : (vs : List ℕ) (m : ℕ) → replicate m 1 ≡ table (digit vs 0) m
 unfolding digit own
@@ -139,10 +150,16 @@ masked_faults n links a i l m =
     ap (λ (w : ℕ). bit w (suc i)) (get_or_table (faults n links) (2 ^ n) a l) ∙ bit_pack (cut links a) n i m
 
 -- room for 2^n nodes, as the machine lends it of a longer array
-pub room : (x n k : ℕ) (xs : List ℕ) → n < 64 → 2 ^ n ≤ k → xs ≡ replicate k x → take (1 * 2 ^ n % 18446744073709551616 - 0) xs ≡ replicate (2 ^ n) x
-room x n k xs h l e =
-    ap₂ (λ (m : ℕ) (ys : List ℕ). take m ys) (let s : 1 * 2 ^ n % 18446744073709551616 - 0 ≡ 2 ^ n = omega (arith, pow_shift n 64 h) in s) e
-    ∙ take_replicate x (2 ^ n) k l
+pub room : (x n k : ℕ) → n < 64 → 2 ^ n ≤ k → take (1 * 2 ^ n % 18446744073709551616) (replicate k x) ≡ replicate (2 ^ n) x
+room x n k h l = ap (λ (m : ℕ). take m (replicate k x)) (pow_shift n 64 h) ∙ take_replicate x (2 ^ n) k l
+
+pub length_faults : (n : ℕ) (links : List ℕ) → length (all_faults n links) ≡ 2 ^ n
+unfolding all_faults
+length_faults n links = length_table (faults n links) (2 ^ n)
+
+-- and the masks that were written there, as they are lent again
+pub lent_again : (n : ℕ) (links masks rest : List ℕ) → n < 64 → masks ≡ all_faults n links → take (1 * 2 ^ n % 18446744073709551616) (masks ++ rest) ≡ all_faults n links
+lent_again n links masks rest h e = take_at masks rest _ (ap length e ∙ length_faults n links ∙ sym (pow_shift n 64 h)) ∙ e
 
 -- where no word marks a link, every mask is empty
 pub faults_none : (n : ℕ) (links : List ℕ) → narrow 0 links ≡ true → replicate (2 ^ n) 0 ≡ all_faults n links
@@ -152,11 +169,11 @@ faults_none n links e =
     (λ a l. get_or-replicate (2 ^ n) a 0 0 l ∙ sym (pack_zero (cut links a) n (λ i m. cut_none links e a (suc i))))
 
 -- over the masks the rounds give what the report says
-pub after_known : (R : Report) → after (known R.dim R.status (all_faults R.dim R.links)) R.dim ≡ after (cube R) R.dim
+pub after_known : (R : Report) → after (known R (all_faults R.dim R.links)) R.dim ≡ after (cube R) R.dim
 unfolding after up_to bits_of known cube
 after_known R =
     let n = R.dim in
-    let K : Cube = known n R.status (all_faults n R.links) in
+    let K : Cube = known R (all_faults n R.links) in
     let C : Cube = cube R in
     table_ext (up_to C n) (2 ^ n) (table (up_to K n) (2 ^ n)) (length_table (up_to K n) (2 ^ n))
     (λ a l. get_or_table (up_to K n) (2 ^ n) a l

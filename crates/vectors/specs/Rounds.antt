@@ -1,12 +1,16 @@
 -- For Fill's private functions: what it keeps between its rounds, which are the vectors so far, the last bit of every board, and the faulty links of every board.
-use Rattle.std.specs.Prelude.{ℕ, ◌≤◌, ◌^◌, Bool, List, eqb, get_or}
+use Rattle.std.specs.Prelude.{◌≡◌, ℕ, ◌≤◌, ◌^◌, Bool, List, eqb, length, get_or}
 use Rattle.cube.specs.Bits.{bit}
 use Rattle.cube.specs.Count.{one, pack}
 use Rattle.cube.specs.Table.{table}
 use Rattle.report.specs.Health.{Cube}
-use Rattle.report.specs.Report.{works, cut}
+use Rattle.report.specs.Report.{Report, works, cut}
 use Rattle.safety.specs.Safety.{bits_of}
 use Rattle.held.specs.Held.{own}
+
+-- a report of at most 1,024 boards has one link word for each node, and a list one entry
+abbrev pub Fits : Report → List ℕ → Type 0
+Fits R xs = (R.dim ≤ 10) × (length R.links ≡ 2 ^ R.dim) × (length xs ≡ 2 ^ R.dim)
 
 -- bits 1 to k of node a
 unfoldable pub up_to : Cube → ℕ → ℕ → ℕ
@@ -46,7 +50,7 @@ unfoldable pub masked : ℕ → ℕ → ℕ → Bool
 unfolding bit
 masked mask a i = bit mask i
 
--- the cube whose faulty links stand in a table of masks
-unfoldable pub known : ℕ → List ℕ → List ℕ → Cube
+-- the cube of a report, but with the faulty links that a table of masks has
+unfoldable pub known : Report → List ℕ → Cube
 unfolding works masked
-known n status masks = record { dim = n; works = works status; cut = λ a. masked (get_or masks a 0) a }
+known R masks = record { dim = R.dim; works = works R.status; cut = λ a. masked (get_or masks a 0) a }

@@ -1,53 +1,31 @@
 // Wu's safety vectors: Fill.
 #![tactic(auto)]
 
-ghost use Rattle.std.specs.Prelude.{◌≡◌, suc, ◌+◌, ◌^◌, ◌≤◌, ◌<◌, ◌&&◌, length, replicate};
+ghost use Rattle.std.specs.Prelude.{◌≡◌, suc, ◌^◌, ◌≤◌, ◌<◌, ◌&&◌, length, replicate};
 ghost use Rattle.cube.specs.Bits.{flip};
 ghost use Rattle.cube.specs.Count.{one, count};
 ghost use Rattle.cube.specs.Reply.{OneAnswer};
 ghost use Rattle.cube.specs.Refusals.{refused_by};
 ghost use Rattle.cube.specs.Table.{table};
-ghost use Rattle.report.specs.Report.{report, reported, works, cube};
+ghost use Rattle.report.specs.Report.{reported, cube};
 ghost use Rattle.safety.specs.Safety.{registered, supported};
-ghost use Rattle.vectors.specs.Rounds.{after, digit, shown, Digits, all_faults, masked, known};
+ghost use Rattle.vectors.specs.Rounds.{Fits, after, digit, shown, Digits, all_faults, masked, known};
 ghost use Rattle.vectors.specs.Fill.{fill_refusal, fill, filled, said};
 
 use cube::{Node, Refusal};
 use report::Report;
 
-// All vectors 0, as before the first round.
-fn clear(vectors: &mut [u16])
-    ensures { vectors.new ≡ replicate (length vectors.old) 0 }
+// The faulty links of every node, over empty masks; most reports mark no link.
+fn gather(report: &Report, masks: &mut [u16])
+    requires { Fits (reported report.now) masks.old × (masks.old ≡ replicate (2 ^ report.now.n) 0) }
+    ensures { masks.new ≡ all_faults report.now.n report.now.links.now }
 {
-    let mut a: usize = 0;
-    while a < vectors.len() {
-        vectors[a] = 0;
-        a += 1;
-    }
-}
-
-// The faulty links of every node.
-fn all_faults(n: u32, links: &[u16], masks: &mut [u16])
-    requires { (n ≤ 10) × (length masks.old ≡ 2 ^ n) × (length links.now ≡ 2 ^ n) }
-    ensures { masks.new ≡ all_faults n links.now }
-{
-    let mut a: usize = 0;
-    while a < masks.len() {
-        let number = a as u16;
-        masks[a] = held::faulty_links(n, links, Node(number));
-        a += 1;
-    }
-}
-
-// The same over empty masks; most reports mark no link.
-fn gather(n: u32, links: &[u16], masks: &mut [u16])
-    requires { (n ≤ 10) × (masks.old ≡ replicate (2 ^ n) 0) × (length links.now ≡ 2 ^ n) }
-    ensures { masks.new ≡ all_faults n links.now }
-{
-    if report::narrow(0, links) {
+    if report::narrow(0, report.links) {
         return;
     }
-    all_faults(n, links, masks);
+    for (a, mask) in masks.iter_mut().enumerate() {
+        *mask = held::faulty_links(report.n, report.links, Node(a as u16));
+    }
 }
 
 // Bit k of every vector, as a byte for each node.
@@ -55,219 +33,122 @@ fn show(vectors: &[u16], bytes: &mut [u8], k: u32)
     requires { (k ≤ 16) × (length bytes.old ≡ length vectors.now) }
     ensures { bytes.new ≡ table (digit vectors.now k) (length vectors.now) }
 {
-    let mut a: usize = 0;
-    while a < bytes.len() {
-        bytes[a] = held::bit_of(vectors[a], k) as u8;
-        a += 1;
+    for (a, byte) in bytes.iter_mut().enumerate() {
+        *byte = held::bit_of(vectors[a], k) as u8;
     }
 }
 
-// What the byte of a's neighbour along dimension i + 1 shows, as 1 or 0.
-fn shown(bytes: &[u8], a: usize, i: u32) -> u32
-    requires { (i < 16) × (flip a (suc i) < length bytes.now) × Digits bytes.now }
-    ensures digit { result ≡ one (registered (masked 0) (shown bytes.now) a (suc i)) }
-    ensures small { result ≤ 1 }
-{
-    let b = a ^ (1 << i);
-    bytes[b] as u32
+// What a round reads: the report, the faulty links of every node as a mask, and the last bit of every vector as a byte.
+#[derive(Clone, Copy)]
+struct Seen<'a> {
+    report: &'a Report<'a>,
+    masks: &'a [u16],
+    bytes: &'a [u8],
+    ghost fit: { Fits (reported report.now) masks.now },
+    ghost sized: { length bytes.now ≡ 2 ^ report.now.n },
+    ghost digits: { Digits bytes.now },
 }
 
-// The same as registered at a, whose faulty links are those of the mask.
-fn shown_past(mask: u16, bytes: &[u8], a: usize, i: u32) -> u32
-    requires { (i < 16) × (flip a (suc i) < length bytes.now) × Digits bytes.now }
-    ensures digit { result ≡ one (registered (masked mask) (shown bytes.now) a (suc i)) }
-    ensures small { result ≤ 1 }
-{
-    (1 - held::bit_of(mask, i + 1)) * shown(bytes, a, i)
-}
+impl Seen<'_> {
+    ghost use Rattle.vectors.specs.Seen.{seen};
 
-// How many of a's neighbours along dimensions 1 to n are registered with the bit shown, by a's faulty links.
-fn sum_sound(n: u32, mask: u16, bytes: &[u8], a: usize) -> u32
-    requires { (n ≤ 10) × (a < 2 ^ n) × (length bytes.now ≡ 2 ^ n) × Digits bytes.now }
-    ensures { result ≡ count (registered (masked mask) (shown bytes.now) a) n }
-{
-    let mut sum: u32 = 0;
-    let mut i: u32 = 0;
-    while i < n {
-        sum += shown_past(mask, bytes, a, i);
-        i += 1;
+    // What the byte of a's neighbour along dimension i + 1 shows, as 1 or 0.
+    fn shown(&self, a: usize, i: u32) -> u32
+        requires { (i < self.now.report.now.n) × (a < 2 ^ self.now.report.now.n) }
+        ensures digit { result ≡ one (shown self.now.bytes.now (flip a (suc i))) }
+        ensures small { result ≤ 1 }
+    {
+        self.bytes[a ^ (1 << i)] as u32
     }
-    sum
-}
 
-// The same where no link of a is faulty.
-fn sum(n: u32, bytes: &[u8], a: usize) -> u32
-    requires { (n ≤ 10) × (a < 2 ^ n) × (length bytes.now ≡ 2 ^ n) × Digits bytes.now }
-    ensures { result ≡ count (registered (masked 0) (shown bytes.now) a) n }
-{
-    let mut sum: u32 = 0;
-    let mut i: u32 = 0;
-    while i < n {
-        sum += shown(bytes, a, i);
-        i += 1;
+    // How many of a's neighbours along dimensions 1 to n are registered with the bit shown, if a's faulty links are the mask's.
+    #[inline(always)]
+    fn count(&self, n: u32, mask: u16, a: usize) -> u32
+        requires { (n ≤ self.now.report.now.n) × (a < 2 ^ self.now.report.now.n) }
+        ensures { result ≡ count (registered (masked mask) (shown self.now.bytes.now) a) n }
+    {
+        let mut sum = 0;
+        for i in 0..n {
+            sum += (1 - held::bit_of(mask, i + 1)) * self.shown(a, i);
+        }
+        sum
     }
-    sum
-}
 
-// The same along the five dimensions from i + 1 on, in the largest cabinet.
-fn five(bytes: &[u8], a: usize, i: u32) -> u32
-    requires { (i ≤ 5) × (a < 1024) × (length bytes.now ≡ 1024) × Digits bytes.now }
-    ensures { let seen = registered (masked 0) (shown bytes.now) a in
-        count seen i + result ≡ count seen (i + 5) }
-{
-    let one = shown(bytes, a, i);
-    let two = one + shown(bytes, a, i + 1);
-    let three = two + shown(bytes, a, i + 2);
-    let four = three + shown(bytes, a, i + 3);
-    four + shown(bytes, a, i + 4)
-}
-
-// The same along all ten dimensions of the largest cabinet, written out.
-fn ten(bytes: &[u8], a: usize) -> u32
-    requires { (a < 1024) × (length bytes.now ≡ 1024) × Digits bytes.now }
-    ensures { result ≡ count (registered (masked 0) (shown bytes.now) a) 10 }
-{
-    five(bytes, a, 0) + five(bytes, a, 5)
-}
-
-// How many of a's neighbours are registered with the bit shown. Most nodes have no faulty link.
-fn heard_by(n: u32, mask: u16, bytes: &[u8], a: usize) -> u32
-    requires { (n ≤ 10) × (a < 2 ^ n) × (length bytes.now ≡ 2 ^ n) × Digits bytes.now }
-    ensures { result ≡ count (registered (masked mask) (shown bytes.now) a) n }
-{
-    if mask != 0 {
-        return sum_sound(n, mask, bytes, a);
+    // How many of a's neighbours are registered with the bit shown.
+    fn heard_by(&self, a: usize) -> u32
+        requires { a < 2 ^ self.now.report.now.n }
+        ensures { result ≡ count (registered (seen self.now).cut (shown self.now.bytes.now) a) self.now.report.now.n }
+    {
+        let mask = self.masks[a];
+        // Numbers in place of names, so that the loop of most nodes of the largest cabinet is written out.
+        if mask == 0 && self.report.n == 10 {
+            return self.count(10, 0, a);
+        }
+        self.count(self.report.n, mask, a)
     }
-    if n == 10 {
-        return ten(bytes, a);
-    }
-    sum(n, bytes, a)
-}
 
-// Bit k + 1 of node a by the bits k shown, as 1 or 0.
-fn next_bit(n: u32, status: &[u8], masks: &[u16], bytes: &[u8], a: usize, k: u32) -> u16
-    requires { (n ≤ 10) × (k < n) × (a < 2 ^ n) × (length masks.now ≡ 2 ^ n) × (length bytes.now ≡ 2 ^ n) × Digits bytes.now }
-    ensures { let K = known n status.now masks.now in
-        result ≡ one (K.works a && supported K (shown bytes.now) (suc k) a) }
-{
-    let number = a as u16;
-    let report = Report {
-        n,
-        status,
-        links: &[],
-    };
-    if report.works(Node(number)) {
-        let sum = heard_by(n, masks[a], bytes, a);
-        if sum <= n - (k + 1) { 0 } else { 1 }
-    } else {
-        0
+    // Bit k + 1 of node a by the bits k shown, as 1 or 0.
+    fn next_bit(&self, a: usize, k: u32) -> u16
+        requires { (k < self.now.report.now.n) × (a < 2 ^ self.now.report.now.n) }
+        ensures { let C = seen self.now in
+            result ≡ one (C.works a && supported C (shown self.now.bytes.now) (suc k) a) }
+    {
+        if !self.report.works(Node(a as u16)) {
+            return 0;
+        }
+        u16::from(self.heard_by(a) > self.report.n - (k + 1))
     }
-}
 
-// Round k: bit k + 1 of every vector, by the bits k shown.
-fn round(n: u32, status: &[u8], masks: &[u16], bytes: &[u8], vectors: &mut [u16], k: u32)
-    requires { (n ≤ 10) × (k < n) × (length masks.now ≡ 2 ^ n)
-        × (vectors.old ≡ after (known n status.now masks.now) k) × (bytes.now ≡ table (digit vectors.old k) (2 ^ n)) }
-    ensures { vectors.new ≡ after (known n status.now masks.now) (suc k) }
-{
-    let mut a: usize = 0;
-    while a < vectors.len() {
-        let bit = next_bit(n, status, masks, bytes, a, k);
-        vectors[a] = vectors[a] + (bit << k);
-        a += 1;
+    // Round k: bit k + 1 of every vector, by the bits k shown.
+    fn round(&self, vectors: &mut [u16], k: u32)
+        requires { (k < self.now.report.now.n) × (vectors.old ≡ after (seen self.now) k)
+            × (self.now.bytes.now ≡ table (digit vectors.old k) (2 ^ self.now.report.now.n)) }
+        ensures { vectors.new ≡ after (seen self.now) (suc k) }
+    {
+        for (a, vector) in vectors.iter_mut().enumerate() {
+            *vector += self.next_bit(a, k) << k;
+        }
     }
 }
 
 // The rounds, one for each bit; before the first, every byte shows bit 0, which is 1.
-fn all_rounds(n: u32, status: &[u8], masks: &[u16], bytes: &mut [u8], vectors: &mut [u16])
-    requires { (n ≤ 10) × (length masks.now ≡ 2 ^ n) × (bytes.old ≡ replicate (2 ^ n) 1) × (length vectors.old ≡ 2 ^ n) }
-    ensures { vectors.new ≡ after (known n status.now masks.now) n }
+fn all_rounds(report: &Report, masks: &[u16], bytes: &mut [u8], vectors: &mut [u16])
+    requires { Fits (reported report.now) masks.now × (bytes.old ≡ replicate (2 ^ report.now.n) 1) × (length vectors.old ≡ 2 ^ report.now.n) }
+    ensures { vectors.new ≡ after (known (reported report.now) masks.now) report.now.n }
 {
-    clear(vectors);
-    let mut k: u32 = 0;
-    while k < n {
-        round(n, status, masks, bytes, vectors, k);
+    vectors.fill(0);
+    for k in 0..report.n {
+        let seen = Seen {
+            report: &*report,
+            masks: &*masks,
+            bytes: &*bytes,
+        };
+        seen.round(vectors, k);
         show(vectors, bytes, k + 1);
-        k += 1;
     }
 }
 
-// The link words read once, then the rounds.
-fn by_rounds(
-    n: u32,
-    status: &[u8],
-    links: &[u16],
-    masks: &mut [u16],
-    bytes: &mut [u8],
-    vectors: &mut [u16],
-)
-    requires { (n ≤ 10) × (masks.old ≡ replicate (2 ^ n) 0) × (bytes.old ≡ replicate (2 ^ n) 1)
-        × (length vectors.old ≡ 2 ^ n) × (length links.now ≡ 2 ^ n) }
-    ensures { vectors.new ≡ after (cube (report n status.now links.now)) n }
+// The link words read once, then the rounds, with room for so many boards.
+fn in_room<const ROOM: usize>(report: &Report, vectors: &mut [u16])
+    requires { Fits (reported report.now) vectors.old × (2 ^ report.now.n ≤ ROOM) × (ROOM ≤ 1024) }
+    ensures { vectors.new ≡ after (cube (reported report.now)) report.now.n }
 {
-    gather(n, links, masks);
-    all_rounds(n, status, masks, bytes, vectors);
-}
-
-// Empty masks of 1,024 boards.
-fn room_for_masks() -> [u16; 1024]
-    ensures { result ≡ replicate 1024 0 }
-{
-    [0; 1024]
-}
-
-// The bytes of 1,024 boards that show bit 0.
-fn room_for_bytes() -> [u8; 1024]
-    ensures { result ≡ replicate 1024 1 }
-{
-    [1; 1024]
-}
-
-// With room for 32 boards.
-fn in_few(n: u32, status: &[u8], links: &[u16], vectors: &mut [u16])
-    requires { (n ≤ 5) × (length vectors.old ≡ 2 ^ n) × (length links.now ≡ 2 ^ n) }
-    ensures { vectors.new ≡ after (cube (report n status.now links.now)) n }
-{
-    let nodes: usize = 1 << n;
-    let mut masks = [0u16; 32];
-    let mut bytes = [1u8; 32];
-    by_rounds(
-        n,
-        status,
-        links,
-        &mut masks[0..nodes],
-        &mut bytes[0..nodes],
-        vectors,
-    );
-}
-
-// With room for 1,024 boards.
-fn in_many(n: u32, status: &[u8], links: &[u16], vectors: &mut [u16])
-    requires { (n ≤ 10) × (length vectors.old ≡ 2 ^ n) × (length links.now ≡ 2 ^ n) }
-    ensures { vectors.new ≡ after (cube (report n status.now links.now)) n }
-{
-    let nodes: usize = 1 << n;
-    let mut masks = room_for_masks();
-    let mut bytes = room_for_bytes();
-    by_rounds(
-        n,
-        status,
-        links,
-        &mut masks[0..nodes],
-        &mut bytes[0..nodes],
-        vectors,
-    );
+    let nodes: usize = 1 << report.n;
+    let mut masks = [0u16; ROOM];
+    let mut bytes = [1u8; ROOM];
+    gather(report, &mut masks[..nodes]);
+    all_rounds(report, &masks[..nodes], &mut bytes[..nodes], vectors);
 }
 
 // All the vectors, in as much room as they take.
-fn write_vectors(n: u32, status: &[u8], links: &[u16], vectors: &mut [u16])
-    requires { (n ≤ 10) × (length vectors.old ≡ 2 ^ n) × (length links.now ≡ 2 ^ n) }
-    ensures { vectors.new ≡ after (cube (report n status.now links.now)) n }
+fn write_vectors(report: &Report, vectors: &mut [u16])
+    requires { Fits (reported report.now) vectors.old }
+    ensures { vectors.new ≡ after (cube (reported report.now)) report.now.n }
 {
-    if n <= 5 {
-        in_few(n, status, links, vectors);
+    if report.n <= 5 {
+        in_room::<32>(report, vectors);
     } else {
-        in_many(n, status, links, vectors);
+        in_room::<1024>(report, vectors);
     }
 }
 
@@ -287,7 +168,7 @@ pub fn fill(report: &Report, vectors: &mut [u16]) -> Result<(), Refusal>
     ensures words { vectors.new ≡ filled (reported report.now) vectors.old }
 {
     tested(report, vectors)?;
-    write_vectors(report.n, report.status, report.links, vectors);
+    write_vectors(report, vectors);
     Ok(())
 }
 
