@@ -44,8 +44,7 @@ fn put_bits(page: &mut Page, n: u32, vectors: &[u16], a: Node)
         Puts (spec.row bits n) page.old page.new }
 {
     for k in 0..n {
-        let bit = held::own(vectors, a, k + 1);
-        page.put_byte(b'0' + bit as u8);
+        page.put_byte(b'0' + u8::from(held::own(vectors, a, k + 1)));
     }
 }
 
