@@ -4,7 +4,7 @@ use mathlib.Core.List.{List}
 use mathlib.Core.Bool.{Bool, true, false, not, cond}
 use Prim.Native.Nat.{ℕ, zero, suc}
 use native.Mathlib.Omega.{arith}
-use Rattle.std.specs.Prelude.{Result, Ok, Err}
+use Rattle.std.specs.Prelude.{Result, Ok, Err, is_ok}
 use Rattle.cube.specs.Reply.{Reply, refused, accepted, unless, kept, OneAnswer}
 use Rattle.cube.specs.Refusals.{number_in, saying, refused_by}
 use Rattle.cube.specs.declared.refusal.Refusal.{Refusal}
@@ -90,3 +90,8 @@ one_answer_by {A = A} {B = B} f back h = one_answer (saying f) undo undone
     undone : (r : Result A Refusal) → undo (saying f r) ≡ r
     undone (Ok x) = ap Ok (h x)
     undone (Err e) = ap Err (refusal_back e)
+
+-- an answer that says an acceptance is one
+pub accepts : {A B : Type 0} (f : A → B) (r : Result A Refusal) (y : B) → saying f r ≡ accepted y → is_ok r ≡ true
+accepts f (Ok x) y e = refl
+accepts f (Err m) y e = absurd (let z : ◌≡◌ {A = ℕ} 0 1 = cc in omega arith)

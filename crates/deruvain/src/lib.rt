@@ -1,8 +1,9 @@
 // The C interface: every job on numbers and slices alone.
 #![tactic(auto)]
 
-ghost use Rattle.std.specs.Prelude.{◌≡◌};
+ghost use Rattle.std.specs.Prelude.{◌≡◌, ◌+◌, leb, length};
 ghost use Rattle.cube.specs.Reply.{number_of};
+ghost use Rattle.cube.specs.Refusals.{number_in, refused_by};
 ghost use Rattle.report.specs.Class.{class_of};
 ghost use Rattle.report.specs.Report.{report};
 ghost use Rattle.vectors.specs.Fill.{fill, filled};
@@ -18,10 +19,10 @@ ghost use Rattle.log_rules.specs.Refresh as refreshing;
 ghost use Rattle.status_log.specs.Answer as logging;
 ghost use Rattle.deruvain.specs.Numbers.{class_number, kind_number, room_number, Says, Decided, Hopped, Travelled, Read, Skipped, Fixed};
 
-use cube::{Nav, Node};
+use cube::{Nav, Node, Refusal};
 use journey::Trip;
-use report::Class;
-use routing::{Decision, Kind, Step};
+use report::Report;
+use routing::Kind;
 
 // A job's answer: the refusal's number, 0 for an acceptance, and the acceptance's numbers, 0 after a refusal.
 #[repr(C)]
@@ -49,34 +50,31 @@ pub struct Refreshed {
     pub skipped: usize,
 }
 
-// The number of a class.
-fn class_number(class: Class) -> u32
-    ensures { result ≡ class_number class }
-{
-    match class {
-        Class::Silent => 0,
-        Class::Working => 1,
-        Class::Late => 2,
-        Class::Down => 3,
-        Class::Empty => 4,
-    }
-}
-
 // The class of a status byte: 0 silent, 1 working, 2 late, 3 down, 4 empty.
 #[unsafe(no_mangle)]
 pub extern "C" fn deruvain_class(byte: u8) -> u32
     ensures { result ≡ class_number (class_of byte) }
 {
-    class_number(report::class_of(byte))
+    report::class_of(byte) as u32
+}
+
+// The number of a job that answers nothing else: its refusal's, 0 for none.
+fn number(answer: Result<(), Refusal>) -> u32
+    ensures { result ≡ refused_by answer }
+{
+    match answer {
+        Ok(()) => 0,
+        Err(refusal) => u32::from(refusal),
+    }
 }
 
 // Fill: the refusal's number, 0 for done.
 #[unsafe(no_mangle)]
 pub extern "C" fn deruvain_fill(n: u32, status: &[u8], links: &[u16], vectors: &mut [u16]) -> u32
-    ensures { let R = report n status.now links.now in
-        (result ≡ number_of (fill R vectors.old)) × (vectors.new ≡ filled R vectors.old) }
+    ensures answer { result ≡ number_of (fill (report n status.now links.now) vectors.old) }
+    ensures words { vectors.new ≡ filled (report n status.now links.now) vectors.old }
 {
-    vectors::fill(n, status, links, vectors).number()
+    number(vectors::fill(&Report { n, status, links }, vectors))
 }
 
 // The number of a kind.
@@ -105,24 +103,94 @@ fn accepted(kind: Kind, hops: u32) -> Answer
 }
 
 // A refusal's numbers.
-fn refused(number: u32) -> Answer
-    ensures { Says result number 0 0 0 }
+fn refused(refusal: Refusal) -> Answer
+    ensures { Says result (number_in refusal) 0 0 0 }
 {
     Answer {
-        refusal: number,
+        refusal: u32::from(refusal),
         kind: 0,
         mask: 0,
         hops: 0,
     }
 }
 
-// Decide's answer as numbers.
-fn of_decision(decision: Decision) -> Answer
-    ensures { Decided result (deciding.said decision) }
-{
-    match decision {
-        Decision::Accepted(kind) => accepted(kind, kind.offer().hops),
-        Decision::Refused(number) => refused(number),
+impl From<Result<Kind, Refusal>> for Answer {
+    ghost from_gives = { λ decided answer. Decided answer (deciding.said decided) };
+
+    // Decide's answer as numbers.
+    fn from(decided: Result<Kind, Refusal>) -> Answer {
+        match decided {
+            Ok(kind) => accepted(kind, kind.offer().hops),
+            Err(refusal) => refused(refusal),
+        }
+    }
+}
+
+impl From<Result<Option<u16>, Refusal>> for Answer {
+    ghost from_gives = { λ hopped answer. Hopped answer (hopping.said hopped) };
+
+    // Hop's answer as numbers.
+    fn from(hopped: Result<Option<u16>, Refusal>) -> Answer {
+        match hopped {
+            Ok(None) => Answer {
+                refusal: 0,
+                kind: 0,
+                mask: 0,
+                hops: 0,
+            },
+            Ok(Some(mask)) => Answer {
+                refusal: 0,
+                kind: 1,
+                mask: mask as u32,
+                hops: 0,
+            },
+            Err(refusal) => refused(refusal),
+        }
+    }
+}
+
+impl From<Result<Trip, Refusal>> for Answer {
+    ghost from_gives = { λ made answer. Travelled answer (travelling.said made) };
+
+    // Journey's answer as numbers.
+    fn from(made: Result<Trip, Refusal>) -> Answer {
+        match made {
+            Ok(trip) => accepted(trip.kind, trip.hops),
+            Err(refusal) => refused(refusal),
+        }
+    }
+}
+
+impl From<Result<u32, Refusal>> for Opened {
+    ghost from_gives = { λ read opened. Read opened (opening.said read) };
+
+    // Open's answer as numbers.
+    fn from(read: Result<u32, Refusal>) -> Opened {
+        match read {
+            Ok(n) => Opened { refusal: 0, n },
+            Err(refusal) => Opened {
+                refusal: u32::from(refusal),
+                n: 0,
+            },
+        }
+    }
+}
+
+impl From<Result<usize, Refusal>> for Refreshed {
+    ghost from_gives = { λ read refreshed. Skipped refreshed (logging.said read) };
+
+    // The answer of Refresh and Update as numbers.
+    fn from(read: Result<usize, Refusal>) -> Refreshed {
+        match read {
+            Ok(skipped) => Refreshed {
+                refusal: 0,
+                skipped,
+            },
+            Err(refusal) => Refreshed {
+                refusal: u32::from(refusal),
+                skipped: 0,
+            },
+        }
     }
 }
 
@@ -139,23 +207,8 @@ pub extern "C" fn deruvain_decide(
     ensures { let R = report n status.now links.now in
         Decided result (decide R vectors.now source destination) }
 {
-    of_decision(routing::decide(n, status, links, vectors, Node(source), Node(destination)))
-}
-
-// Hop's answer as numbers.
-fn of_step(step: Step) -> Answer
-    ensures { Hopped result (hopping.said step) }
-{
-    match step {
-        Step::Arrived => refused(0),
-        Step::Offered(mask) => Answer {
-            refusal: 0,
-            kind: 1,
-            mask: mask as u32,
-            hops: 0,
-        },
-        Step::Refused(number) => refused(number),
-    }
+    let report = Report { n, status, links };
+    Answer::from(routing::decide(&report, vectors, Node(source), Node(destination)))
 }
 
 // Hop: kind 0 arrived, 1 offered.
@@ -171,17 +224,8 @@ pub extern "C" fn deruvain_hop(
     ensures { let R = report n status.now links.now in
         Hopped result (hop R vectors.now node relative) }
 {
-    of_step(routing::hop(n, status, links, vectors, Node(node), Nav(relative)))
-}
-
-// Journey's answer as numbers.
-fn of_trip(trip: Trip) -> Answer
-    ensures { Travelled result (travelling.said trip) }
-{
-    match trip {
-        Trip::Arrived(kind, hops) => accepted(kind, hops),
-        Trip::Refused(number) => refused(number),
-    }
+    let report = Report { n, status, links };
+    Answer::from(routing::hop(&report, vectors, Node(node), Nav(relative)))
 }
 
 // Journey: the source's kind and mask, and the hops made.
@@ -196,37 +240,16 @@ pub extern "C" fn deruvain_journey(
     source: u16,
     destination: u16,
 ) -> Answer
-    ensures { let R = report n status.now links.now in
-        let vecs = vectors.old in
-        let picked = picks.now in
-        let road = path.old in
-        Travelled result (travelling.outcome (travelling.journey R vecs picked road source destination))
-        × (vectors.new ≡ travelling.vectors_after R vecs picked road source destination)
-        × (path.new ≡ travelling.path_after R vecs picked road source destination) }
+    ensures answer { let R = report n status.now links.now in
+        Travelled result (travelling.outcome (travelling.journey R vectors.old picks.now path.old source destination)) }
+    ensures words { let R = report n status.now links.now in
+        vectors.new ≡ travelling.vectors_after R vectors.old picks.now path.old source destination }
+    ensures boards { let R = report n status.now links.now in
+        path.new ≡ travelling.path_after R vectors.old picks.now path.old source destination }
 {
-    of_trip(journey::journey(
-        n,
-        status,
-        links,
-        vectors,
-        picks,
-        path,
-        Node(source),
-        Node(destination),
-    ))
-}
-
-// Open's answer as numbers.
-fn of_opened(opened: record::Opened) -> Opened
-    ensures { Read result (opening.said opened) }
-{
-    match opened {
-        record::Opened::Cube(n) => Opened { refusal: 0, n },
-        record::Opened::Refused(number) => Opened {
-            refusal: number,
-            n: 0,
-        },
-    }
+    let report = Report { n, status, links };
+    let (s, d) = (Node(source), Node(destination));
+    Answer::from(journey::journey(&report, vectors, picks, path, s, d))
 }
 
 // Open: n.
@@ -236,23 +259,7 @@ pub extern "C" fn deruvain_open(bytes: &[u8], status: &mut [u8], links: &mut [u1
     ensures boards { status.new ≡ opening.status_opened bytes.now status.old links.old }
     ensures words { links.new ≡ opening.links_opened bytes.now status.old links.old }
 {
-    of_opened(record::open(bytes, status, links))
-}
-
-// The answer of Refresh and Update as numbers.
-fn of_refreshed(refreshed: status_log::Refreshed) -> Refreshed
-    ensures { Skipped result (logging.said refreshed) }
-{
-    match refreshed {
-        status_log::Refreshed::Done(skipped) => Refreshed {
-            refusal: 0,
-            skipped,
-        },
-        status_log::Refreshed::Refused(number) => Refreshed {
-            refusal: number,
-            skipped: 0,
-        },
-    }
+    Opened::from(record::open(bytes, status, links))
 }
 
 // Refresh: the status bytes from a log, and how many of its records are from the future.
@@ -261,7 +268,7 @@ pub extern "C" fn deruvain_refresh(n: u32, sweep: u16, log: &[u8], status: &mut 
     ensures answer { Skipped result (refreshing.refreshed n sweep log.now status.old) }
     ensures boards { status.new ≡ refreshing.status_after n sweep log.now status.old }
 {
-    of_refreshed(status_log::refresh(n, sweep, log, status))
+    Refreshed::from(status_log::refresh(n, sweep, log, status))
 }
 
 // Update, Refresh for a log in parts: over the status bytes that the earlier parts gave, all 0 before the first.
@@ -270,20 +277,14 @@ pub extern "C" fn deruvain_update(n: u32, sweep: u16, part: &[u8], status: &mut 
     ensures answer { Skipped result (refreshing.refreshed n sweep part.now status.old) }
     ensures boards { status.new ≡ refreshing.update_after n sweep part.now status.old }
 {
-    of_refreshed(status_log::update(n, sweep, part, status))
+    Refreshed::from(status_log::update(n, sweep, part, status))
 }
 
-// The number for a record that is to get other status bytes: 0 where they fit, else 2.
-fn room_number(bytes: &[u8], status: &[u8]) -> u32
-    ensures { result ≡ room_number bytes.now status.now }
+// Whether a record has room for these status bytes from its sixth byte on.
+fn has_room(bytes: &[u8], status: &[u8]) -> bool
+    ensures { result ≡ leb (5 + length status.now) (length bytes.now) }
 {
-    if bytes.len() < 5 {
-        return 2;
-    }
-    if bytes.len() - 5 < status.len() {
-        return 2;
-    }
-    0
+    bytes.len().checked_sub(5).is_some_and(|room| status.len() <= room)
 }
 
 // Restate: the refusal's number, 0 for done.
@@ -292,9 +293,9 @@ pub extern "C" fn deruvain_restate(bytes: &mut [u8], status: &[u8]) -> u32
     ensures answer { result ≡ room_number bytes.old status.now }
     ensures record { bytes.new ≡ restated bytes.old status.now }
 {
-    let number = room_number(bytes, status);
+    let fits = Refusal::Length.unless(has_room(bytes, status));
     record::restate(bytes, status);
-    number
+    number(fits)
 }
 
 // For every input the contracts above allow one answer: what is said fixes each struct, and an equation each number and each lent slice.

@@ -7,13 +7,13 @@ use native.Mathlib.Omega.{arith}
 use lib.Bits.{bit_xor}
 use lib.ListN.{length, get_or, take, drop, set, length-set, take-append-drop}
 use lib.Seq.{take-suc-set, drop-set-lt, drop-cons}
+use Rattle.std.specs.Prelude.{Option, Some, None, Result, Ok, Err}
+use Rattle.cube.specs.declared.refusal.Refusal.{Refusal}
 use Rattle.cube.specs.Bits.{flip}
 use Rattle.cube.specs.Reply.{Reply, accepted}
 use Rattle.cube.proofs.Reply.{refused_accepted}
 use Rattle.report.specs.Report.{Report}
 use Rattle.safety.specs.Safety.{vectors_of}
-use Rattle.routing.specs.declared.Step.{Step}
-use Rattle.routing.specs.declared.Step.TheVariants.{Arrived, Offered, Refused}
 use Rattle.routing.specs.Hop.{said}
 use Rattle.rules.specs.Rules.{Choice, mask_of, hops_of, Next, onward}
 use Rattle.rules.specs.Decide.{decide}
@@ -26,15 +26,15 @@ use Rattle.journey.specs.declared.Message.{Message}
 use Rattle.journey.specs.Message.{Offers, Crossed, Walks, ahead}
 use Rattle.journey.proofs.Promise.{hops_end, offers}
 
--- an answer that is another case than an offer offers nothing
-pub no_offer : (x : Step) → ((mask : ℕ) → x ≡ Offered mask → ⊥) → Offers (said x) → ⊥
-no_offer Arrived other (mask, e) = let z : ◌≡◌ {A = ℕ} 0 1 = cc in omega arith
-no_offer (Offered mask) other o = other mask refl
-no_offer (Refused m) other (mask, e) = refused_accepted m _ e
-
 -- two offers that are the same have the same mask
 pub same_offer : {m k : ℕ} → accepted (onward m) ≡ accepted (onward k) → m ≡ k
 same_offer e = cc
+
+-- an answer that says that it offers something does
+pub offered : (x : Result (Option ℕ) Refusal) → (o : Offers (said x)) → x ≡ Ok (Some o.0)
+offered (Ok None) (mask, e) = absurd (let z : ◌≡◌ {A = ℕ} 0 1 = cc in omega arith)
+offered (Ok (Some m)) (mask, e) = ap (λ (k : ℕ). Ok (Some k)) (same_offer e)
+offered (Err r) (mask, e) = absurd (refused_accepted _ _ e)
 
 -- ---- the path
 

@@ -1,8 +1,10 @@
 -- Journey: fills, decides and hops to the end, by a lent list of picks.
-use Rattle.std.specs.Prelude.{ℕ, ◌+◌, not, ◌&&◌, List, [], ◌∷◌, ◌++◌, leb, length, drop}
+use Rattle.std.specs.Prelude.{ℕ, ◌+◌, not, ◌&&◌, List, [], ◌∷◌, ◌++◌, leb, length, drop, Result}
 use Rattle.std.specs.Int.Bits.{bit_xor}
 use Rattle.cube.specs.Bits.{flip}
 use Rattle.cube.specs.Reply.{Reply, refused, accepted, if_accepted, refusal, unless, kept}
+use Rattle.cube.specs.Refusals.{saying}
+use Rattle.cube.specs.declared.refusal.Refusal.{Refusal}
 use Rattle.report.specs.Report.{Report, cube, dimension, all_sized, within, narrow}
 use Rattle.safety.specs.Safety.{vectors, vectors_of}
 use Rattle.pick.specs.Pick.{taken}
@@ -13,7 +15,6 @@ use Rattle.rules.specs.Hop.{hop}
 use Rattle.arrival.specs.Walk.{told}
 use Rattle.routing.specs.Decide.{chosen}
 use Rattle.journey.specs.declared.Trip.{Trip}
-use Rattle.journey.specs.declared.Trip.TheVariants.{Arrived, Refused}
 
 -- The boards after a, by the answer there: an offer goes on along the dimension that the next pick takes, and without one the path ends.
 unfoldable pub hops : Report → (picks : List ℕ) → Reply Next → (a nav : ℕ) → List ℕ
@@ -74,7 +75,10 @@ unfoldable pub path_after : Report → (vecs picks path : List ℕ) → (s d : �
 unfolding path_by journey
 path_after R vecs picks path s d = path_by (journey R vecs picks path s d) s path
 
+-- what a trip says
+abbrev pub told_of : Trip → Choice × ℕ
+told_of t = (chosen t.kind, t.hops)
+
 -- what each case of the answer says
-abbrev pub said : Trip → Reply (Choice × ℕ)
-said (Arrived k h) = accepted (chosen k, h)
-said (Refused m) = refused m
+abbrev pub said : Result Trip Refusal → Reply (Choice × ℕ)
+said = saying told_of

@@ -1,16 +1,17 @@
 -- The laws of a pick.
-use mathlib.Core.Path.{◌≡◌, ap, sym, ◌∙◌}
+use mathlib.Core.Path.{◌≡◌, refl, ap, sym, ◌∙◌}
 use mathlib.Core.Bool.{true}
 use Prim.Native.Nat.{ℕ, zero, suc, min, ◌^◌, ◌≤◌, ◌<◌}
 use mathlib.Core.Logic.{⊎_elim}
 use native.Mathlib.Nat.{mod-lt}
 use native.Mathlib.Omega.{arith}
+use Rattle.std.specs.Prelude.{Some, None}
 use Rattle.cube.specs.Bits.{bit}
 use Rattle.cube.specs.Count.{ranked}
 use Rattle.cube.proofs.Bits.{bit_high}
 use Rattle.cube.proofs.Order.{lt_or_ge}
 use Rattle.cube.proofs.Count.{ranked_le, ranked_in, weight_below, weight_pos}
-use Rattle.pick.specs.Pick.{taken}
+use Rattle.pick.specs.Pick.{named, taken}
 
 -- a pick takes no dimension above n
 pub taken_le : (n mask pick : ℕ) → taken n mask pick ≤ n
@@ -39,3 +40,12 @@ ranked_top mask r n h = ⊎_elim low high (lt_or_ge n 16)
 
     high : 16 ≤ n → ranked (bit mask) r (min n 16) ≡ ranked (bit mask) r n
     high l = ap (ranked (bit mask) r) (let e : min n 16 ≡ 16 = omega arith in e) ∙ sym (past mask r n h l)
+
+-- what a number names, and that 0 alone names nothing
+pub named_some : (t i : ℕ) → Some i ≡ named t → i ≡ t
+named_some zero i e = absurd (let z : ◌≡◌ {A = ℕ} 0 1 = cc in omega arith)
+named_some (suc t) i e = cc
+
+pub named_none : (t : ℕ) → None ≡ named t → t ≡ 0
+named_none zero e = refl
+named_none (suc t) e = absurd (let z : ◌≡◌ {A = ℕ} 0 1 = cc in omega arith)

@@ -1,5 +1,5 @@
 -- The pick: which of the dimensions offered a message takes.
-use Rattle.std.specs.Prelude.{ℕ, ◌%◌}
+use Rattle.std.specs.Prelude.{ℕ, zero, suc, ◌%◌, Option, Some, None}
 use Rattle.std.specs.Int.Count.{ones}
 use Rattle.cube.specs.Bits.{bit, weight}
 use Rattle.cube.specs.Count.{ranked}
@@ -8,3 +8,8 @@ use Rattle.cube.specs.Count.{ranked}
 unfoldable pub taken : ℕ → ℕ → ℕ → ℕ
 unfolding ranked bit ones
 taken n mask pick = ranked (bit mask) (pick % weight mask) n
+
+-- the dimension that a number names; 0 names none
+abbrev pub named : ℕ → Option ℕ
+named zero = None
+named (suc i) = Some (suc i)

@@ -1,47 +1,35 @@
 // The pick: which of the dimensions offered a message takes.
 #![tactic(auto)]
 
-ghost use Rattle.std.specs.Prelude.{◌≡◌, min, ◌≤◌};
+ghost use Rattle.std.specs.Prelude.{◌≡◌, ◌≤◌};
 ghost use Rattle.cube.specs.Bits.{bit};
 ghost use Rattle.cube.specs.Count.{ranked};
-ghost use Rattle.pick.specs.Pick.{taken};
+ghost use Rattle.pick.specs.Pick.{named, taken};
 
-// The dimension of rank r in a mask, rank 0 the lowest; 0 where there is none.
-fn rank(n: u32, mask: u16, r: u32) -> u32
+// The dimension of rank r in a mask, rank 0 the lowest.
+fn rank(n: u32, mask: u16, r: u32) -> Option<u32>
     requires { n ≤ 16 }
-    ensures { result ≡ ranked (bit mask) r n }
+    ensures { result ≡ named (ranked (bit mask) r n) }
 {
     let mut left = mask;
-    let mut k: u32 = 0;
-    while k < r {
+    for _ in 0..r {
         if left == 0 {
-            return 0;
+            return None;
         }
         left = left & (left - 1);
-        k += 1;
     }
-    let i = u16::trailing_zeros(left) + 1;
-    if n < i {
-        return 0;
-    }
-    i
+    let i = left.trailing_zeros() + 1;
+    if n < i { None } else { Some(i) }
 }
 
-// n, or 16 where that is less: a mask has no dimension above 16.
-fn top(n: u32) -> u32
-    ensures least { result ≡ min n 16 }
-    ensures small { result ≤ 16 }
+// The dimension that a pick takes of those offered, where one up to n is.
+pub fn taken(n: u32, mask: u16, pick: u8) -> Option<u32>
+    ensures { result ≡ named (taken n mask pick) }
 {
-    if n < 16 { n } else { 16 }
-}
-
-// The dimension that a pick takes of those offered; 0 where none up to n is.
-pub fn taken(n: u32, mask: u16, pick: u8) -> u32
-    ensures { result ≡ taken n mask pick }
-{
-    let offered = u16::count_ones(mask);
+    let offered = mask.count_ones();
     if offered == 0 {
-        return 0;
+        return None;
     }
-    rank(top(n), mask, pick as u32 % offered)
+    // A mask has no dimension above 16.
+    rank(n.min(16), mask, pick as u32 % offered)
 }

@@ -9,7 +9,7 @@ ghost use Rattle.report.specs.Report.{reported, works, joint, SeenFromBothEnds, 
 use cube::{Nav, Node};
 
 // The class of a board by its status byte.
-#[derive(Clone, Copy)]
+#[derive(Clone, Copy, Debug, PartialEq, Eq)]
 pub enum Class {
     Silent,
     Working,
@@ -18,16 +18,18 @@ pub enum Class {
     Empty,
 }
 
-// The class of a status byte. Every byte has one.
-pub fn class_of(byte: u8) -> Class
-    ensures { result ≡ class_of byte }
-{
-    match byte {
-        0 => Class::Silent,
-        1..=4 => Class::Working,
-        5..=253 => Class::Late,
-        254 => Class::Down,
-        255 => Class::Empty,
+impl From<u8> for Class {
+    ghost from_gives = { λ byte class. class ≡ class_of byte };
+
+    // The class of a status byte. Every byte has one.
+    fn from(byte: u8) -> Class {
+        match byte {
+            0 => Class::Silent,
+            1..=4 => Class::Working,
+            5..=253 => Class::Late,
+            254 => Class::Down,
+            255 => Class::Empty,
+        }
     }
 }
 
@@ -36,13 +38,7 @@ impl Class {
     pub fn is_working(self) -> bool
         ensures { result ≡ is_working self }
     {
-        match self {
-            Class::Silent => false,
-            Class::Working => true,
-            Class::Late => false,
-            Class::Down => false,
-            Class::Empty => false,
-        }
+        self == Class::Working
     }
 }
 
@@ -96,7 +92,7 @@ impl Report<'_> {
         ensures { result ≡ works self.now.status.now a.0 }
     {
         match self.status.get(a.0 as usize) {
-            Some(byte) => class_of(*byte).is_working(),
+            Some(byte) => Class::from(*byte).is_working(),
             None => false,
         }
     }
@@ -150,7 +146,7 @@ fn within(n: u32, a: u16) -> bool
 fn limit(n: u32) -> u32
     ensures { result ≡ 2 ^ min n 16 }
 {
-    if n < 16 { 1 << n } else { 65536 }
+    1 << n.min(16)
 }
 
 // Whether no link word has a bit at weight 2^n or above.

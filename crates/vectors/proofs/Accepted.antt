@@ -2,9 +2,8 @@
 use mathlib.Core.Path.{◌≡◌}
 use mathlib.Core.Bool.{◌&&◌, and-eq-true_iff}
 use mathlib.Core.List.{List}
-use Prim.Native.Nat.{ℕ, ◌≤◌, ◌^◌}
+use Prim.Native.Nat.{ℕ}
 use borrow.Author.Tests.{not-false, eqb-true}
-use lib.ListN.{length}
 use Rattle.cube.proofs.Reply.{passed}
 use Rattle.report.specs.Report.{Report, sized, all_sized}
 use Rattle.report.proofs.Laws.{dimension_range}

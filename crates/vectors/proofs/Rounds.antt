@@ -1,9 +1,9 @@
 -- The laws of Fill's rounds: in the midst of round k the boards below j have bits 1 to k + 1, the others bits 1 to k.
 use mathlib.Core.Path.{◌≡◌, refl, ap, ap₂, sym, ◌∙◌}
-use mathlib.Core.Bool.{Bool, true, false, not, ◌&&◌}
+use mathlib.Core.Bool.{Bool, true, false, ◌&&◌}
 use mathlib.Core.Logic.{⊎_elim}
 use mathlib.Core.List.{List, ◌++◌}
-use Rattle.std.proofs.lemmas.List.{take_at}
+use Rattle.std.proofs.lemmas.List.{take_at, take-replicate}
 use Prim.Native.Nat.{ℕ, zero, suc, ◌+◌, ◌-◌, ◌*◌, ◌%◌, ◌^◌, ◌≤◌, ◌<◌}
 use native.Mathlib.Nat.{le_trans, le_of_eq}
 use native.Mathlib.Omega.{arith}
@@ -16,9 +16,9 @@ use Rattle.cube.specs.Bits.{bit, flip}
 use Rattle.cube.specs.Count.{one, pack, count}
 use Rattle.cube.specs.Table.{table}
 use Rattle.cube.proofs.Order.{lt_or_ge, eq_or_ne}
-use Rattle.cube.proofs.Bits.{flip_lt, bit_zero, pow_shift}
+use Rattle.cube.proofs.Bits.{flip_lt, pow_shift}
 use Rattle.cube.proofs.Count.{one_le, one_eqb, bit_pack, pack_lt, pack_cong, pack_zero, one_shift}
-use Rattle.cube.proofs.Table.{length_table, get_or_table, table_ext, take_replicate}
+use Rattle.cube.proofs.Table.{length_table, get_or_table, table_ext}
 use Rattle.report.specs.Health.{Cube}
 use Rattle.report.specs.Report.{Report, works, cut, cube, narrow}
 use Rattle.report.proofs.Laws.{cut_none}
@@ -138,11 +138,6 @@ digits_first vs m = table_ext (digit vs 0) m (replicate m 1) (length-replicate m
 
 -- ---- the masks of faulty links
 
--- with an empty mask every neighbour is registered with the bit that it has
-pub registered_all : (bits : ℕ → Bool) (a i : ℕ) → registered (masked 0) bits a i ≡ bits (flip a i)
-unfolding registered masked
-registered_all bits a i = ap (λ (c : Bool). not c && bits (flip a i)) (bit_zero i)
-
 -- a mask has just the links that count as faulty
 masked_faults : (n : ℕ) (links : List ℕ) (a i : ℕ) → a < 2 ^ n → i < n → masked (get_or (all_faults n links) a 0) a (suc i) ≡ cut links a (suc i)
 unfolding masked all_faults faults
@@ -151,7 +146,7 @@ masked_faults n links a i l m =
 
 -- room for 2^n nodes, as the machine lends it of a longer array
 pub room : (x n k : ℕ) → n < 64 → 2 ^ n ≤ k → take (1 * 2 ^ n % 18446744073709551616) (replicate k x) ≡ replicate (2 ^ n) x
-room x n k h l = ap (λ (m : ℕ). take m (replicate k x)) (pow_shift n 64 h) ∙ take_replicate x (2 ^ n) k l
+room x n k h l = ap (λ (m : ℕ). take m (replicate k x)) (pow_shift n 64 h) ∙ take-replicate (2 ^ n) k x l
 
 pub length_faults : (n : ℕ) (links : List ℕ) → length (all_faults n links) ≡ 2 ^ n
 unfolding all_faults

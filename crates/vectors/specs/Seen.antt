@@ -5,4 +5,4 @@ use Rattle.vectors.specs.Rounds.{known}
 use Rattle.vectors.specs.declared.Seen.{Seen}
 
 abbrev pub seen : Seen → Cube
-seen s = known (reported s.report.now) s.masks.now
+seen s = known (reported s.report) s.masks.now

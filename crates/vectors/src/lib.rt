@@ -24,7 +24,7 @@ fn gather(report: &Report, masks: &mut [u16])
         return;
     }
     for (a, mask) in masks.iter_mut().enumerate() {
-        *mask = held::faulty_links(report.n, report.links, Node(a as u16));
+        *mask = held::faulty_links(report, Node(a as u16));
     }
 }
 
@@ -41,55 +41,48 @@ fn show(vectors: &[u16], bytes: &mut [u8], k: u32)
 // What a round reads: the report, the faulty links of every node as a mask, and the last bit of every vector as a byte.
 #[derive(Clone, Copy)]
 struct Seen<'a> {
-    report: &'a Report<'a>,
+    report: Report<'a>,
     masks: &'a [u16],
     bytes: &'a [u8],
-    ghost fit: { Fits (reported report.now) masks.now },
-    ghost sized: { length bytes.now ≡ 2 ^ report.now.n },
+    ghost fit: { Fits (reported report) masks.now },
+    ghost sized: { length bytes.now ≡ 2 ^ report.n },
     ghost digits: { Digits bytes.now },
 }
 
 impl Seen<'_> {
     ghost use Rattle.vectors.specs.Seen.{seen};
 
-    // What the byte of a's neighbour along dimension i + 1 shows, as 1 or 0.
-    fn shown(&self, a: usize, i: u32) -> u32
-        requires { (i < self.now.report.now.n) × (a < 2 ^ self.now.report.now.n) }
-        ensures digit { result ≡ one (shown self.now.bytes.now (flip a (suc i))) }
-        ensures small { result ≤ 1 }
-    {
-        self.bytes[a ^ (1 << i)] as u32
-    }
-
     // How many of a's neighbours along dimensions 1 to n are registered with the bit shown, if a's faulty links are the mask's.
+    // That a < 2^n is asked three times: a type for it beside Node would be no plainer.
     #[inline(always)]
     fn count(&self, n: u32, mask: u16, a: usize) -> u32
-        requires { (n ≤ self.now.report.now.n) × (a < 2 ^ self.now.report.now.n) }
+        requires { (n ≤ self.now.report.n) × (a < 2 ^ self.now.report.n) }
         ensures { result ≡ count (registered (masked mask) (shown self.now.bytes.now) a) n }
     {
         let mut sum = 0;
         for i in 0..n {
-            sum += (1 - held::bit_of(mask, i + 1)) * self.shown(a, i);
+            let b = a ^ (1 << i);
+            sum += (1 - (mask >> i) as u32 % 2) * self.bytes[b] as u32;
         }
         sum
     }
 
     // How many of a's neighbours are registered with the bit shown.
     fn heard_by(&self, a: usize) -> u32
-        requires { a < 2 ^ self.now.report.now.n }
-        ensures { result ≡ count (registered (seen self.now).cut (shown self.now.bytes.now) a) self.now.report.now.n }
+        requires { a < 2 ^ self.now.report.n }
+        ensures { result ≡ count (registered (seen self.now).cut (shown self.now.bytes.now) a) self.now.report.n }
     {
-        let mask = self.masks[a];
-        // Numbers in place of names, so that the loop of most nodes of the largest cabinet is written out.
-        if mask == 0 && self.report.n == 10 {
-            return self.count(10, 0, a);
+        // For speed: most nodes have no faulty link, and with numbers in place of names the largest cabinet's loop is written out.
+        match (self.masks[a], self.report.n) {
+            (0, 10) => self.count(10, 0, a),
+            (0, n) => self.count(n, 0, a),
+            (mask, n) => self.count(n, mask, a),
         }
-        self.count(self.report.n, mask, a)
     }
 
     // Bit k + 1 of node a by the bits k shown, as 1 or 0.
     fn next_bit(&self, a: usize, k: u32) -> u16
-        requires { (k < self.now.report.now.n) × (a < 2 ^ self.now.report.now.n) }
+        requires { (k < self.now.report.n) × (a < 2 ^ self.now.report.n) }
         ensures { let C = seen self.now in
             result ≡ one (C.works a && supported C (shown self.now.bytes.now) (suc k) a) }
     {
@@ -101,8 +94,8 @@ impl Seen<'_> {
 
     // Round k: bit k + 1 of every vector, by the bits k shown.
     fn round(&self, vectors: &mut [u16], k: u32)
-        requires { (k < self.now.report.now.n) × (vectors.old ≡ after (seen self.now) k)
-            × (self.now.bytes.now ≡ table (digit vectors.old k) (2 ^ self.now.report.now.n)) }
+        requires { (k < self.now.report.n) × (vectors.old ≡ after (seen self.now) k)
+            × (self.now.bytes.now ≡ table (digit vectors.old k) (2 ^ self.now.report.n)) }
         ensures { vectors.new ≡ after (seen self.now) (suc k) }
     {
         for (a, vector) in vectors.iter_mut().enumerate() {
@@ -116,10 +109,12 @@ fn all_rounds(report: &Report, masks: &[u16], bytes: &mut [u8], vectors: &mut [u
     requires { Fits (reported report.now) masks.now × (bytes.old ≡ replicate (2 ^ report.now.n) 1) × (length vectors.old ≡ 2 ^ report.now.n) }
     ensures { vectors.new ≡ after (known (reported report.now) masks.now) report.now.n }
 {
+    // For speed: a copy, which no write of the vectors can touch.
+    let report = *report;
     vectors.fill(0);
     for k in 0..report.n {
         let seen = Seen {
-            report: &*report,
+            report,
             masks: &*masks,
             bytes: &*bytes,
         };

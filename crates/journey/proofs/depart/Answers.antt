@@ -1,23 +1,23 @@
 -- `journey::depart` meets its contract: the first hop by the source's mask, and the rest by Hop's.
-use mathlib.Core.Path.{◌≡◌, refl, sym, ◌∙◌}
+use mathlib.Core.Path.{◌≡◌, sym, ◌∙◌}
 use mathlib.Core.List.{List, ◌∷◌}
 use Prim.Native.Nat.{ℕ, ◌+◌, ◌≤◌}
 use native.Mathlib.Omega.{arith}
 use lib.ListN.{length, set, length-set}
-use Rattle.report.specs.Report.{Report, report}
+use Rattle.report.specs.Report.{Report, reported}
 use Rattle.rules.proofs.Decided.{decide_hops}
 use Rattle.routing.specs.Decide.{chosen}
 use Rattle.journey.specs.Journey.{leave, path_by}
 use Rattle.journey.specs.Message.{Walks, ahead}
 use Rattle.journey.specs.declared.Message.{Message}
 use Rattle.journey.proofs.Promise.{leave_arrives}
-use Rattle.journey.proofs.Messages.{path_home, path_whole, sets_out}
+use Rattle.journey.proofs.Messages.{same_offer, path_home, path_whole, sets_out}
 use Rattle.journey.proofs.depart.Goals as goal
 use Rattle.journey.proofs.depart.Goals.{After-follow-first, After-offer-offer, Start}
 
 -- the report that the call is given
 abbrev given : Start → Report
-given c = report c.args.n c.args.status.now c.args.links.now
+given c = reported c.args.report.now
 
 -- the boards after the source
 abbrev after : Start → List ℕ
@@ -25,31 +25,28 @@ after c = (leave (given c) c.args.picks.now c.args.s.0 c.args.d.0 (chosen c.args
 
 -- n + 1 hops are promised at most, and as many are made as are promised
 few : (c : After-offer-offer)
-    → let R = report c.args.n c.args.status.now c.args.links.now in
-    (c.offer-offer.result.hops ≤ c.args.n + 1)
+    → let R = reported c.args.report.now in
+    (c.offer-offer.result.hops ≤ c.args.report.now.n + 1)
     × (c.offer-offer.result.hops ≡ length (leave R c.args.picks.now c.args.s.0 c.args.d.0 (chosen c.args.kind)).after)
 few c =
-    let R = report c.args.n c.args.status.now c.args.links.now in
+    let R = reported c.args.report.now in
     let h = decide_hops _ _ _ _ _ c.requires.4 in
     let e = c.offer-offer.ensures.1 in
     (omega (arith, e, h), e ∙ sym (leave_arrives R _ _ _ c.args.picks.now c.requires.4 (omega (arith, h, c.requires.1))).1)
 
-pub follow-first-requires : goal.follow-first-requires
-follow-first-requires c = (c.requires.0, (_, refl))
-
 -- the message after its first hop
 first : (c : After-follow-first)
-    → let R = report c.args.n c.args.status.now c.args.links.now in
+    → let R = reported c.args.report.now in
     let m = c.follow-first.result in
     Walks R c.offer-offer.result.hops 1 m
     × ((leave R c.args.picks.now c.args.s.0 c.args.d.0 (chosen c.args.kind)).after ≡ m.node.0 ∷ ahead R c.args.picks.now 1 m)
 first c =
-    let R = report c.args.n c.args.status.now c.args.links.now in
+    let R = reported c.args.report.now in
     let m : Message = record { node = c.args.s; nav = c.to.result } in
     let e = c.offer-offer.ensures in
     let h = decide_hops _ _ _ _ _ c.requires.4 in
     sets_out R c.args.picks.now m c.args.d.0 _ c.requires.4 c.follow-first.result _ _ c.to.ensures e
-    (omega (arith, c.if-offer-ne0.true)) (omega (arith, h, e.1, c.requires.1)) c.follow-first.ensures
+    (omega (arith, c.if-offer-ne0.true)) (omega (arith, h, e.1, c.requires.1)) (λ mask q. rw (sym (same_offer q)) c.follow-first.ensures)
 
 pub bounds-path-1 : goal.bounds-path-1
 bounds-path-1 c =

@@ -1,62 +1,112 @@
 -- `journey::journey` meets its contract: its refusals change nothing, and else the route is the one over Fill's vectors.
-use mathlib.Core.Path.{◌≡◌, ap, sym, ◌∙◌}
-use mathlib.Core.List.{List}
+use mathlib.Core.Path.{◌≡◌, refl, ap, sym, ◌∙◌}
 use Prim.Native.Nat.{ℕ}
-use borrow.Author.Rules.{rules}
-use Rattle.cube.specs.Reply.{Reply, refused}
-use Rattle.cube.proofs.Reply.{unless_some, unless_none, kept_some, kept_none}
-use Rattle.report.specs.Report.{Report, report}
-use Rattle.vectors.specs.Fill.{fill_refusal, fill, filled}
-use Rattle.journey.specs.Journey.{Route, route, journey_refusal, journey, outcome, vectors_after, path_by, path_after}
-use Rattle.journey.proofs.Refusals.{Clear, clear_of_none}
+use Rattle.std.proofs.lemmas.Result.{err_from_is_err_and}
+use Rattle.cube.specs.Reply.{Reply, if_accepted}
+use Rattle.cube.proofs.Reply.{unless_none, kept_none}
+use Rattle.cube.proofs.Refusals.{unless_refusal, kept_refusal, accepts}
+use Rattle.report.specs.Report.{Report, reported}
+use Rattle.safety.specs.Safety.{vectors_of}
+use Rattle.vectors.specs.Fill.{fill, filled}
+use Rattle.routing.specs.Decide.{said}
+use Rattle.rules.specs.Decide.{decide}
+use Rattle.journey.specs.Journey.{Route, leave, route, journey_refusal, journey, outcome, vectors_after, path_by, path_after}
+use Rattle.journey.proofs.Refusals.{clear_of_none}
 use Rattle.journey.proofs.journey.Goals as goal
-use Rattle.journey.proofs.journey.Goals.{Else-number-ne0, Start}
+use Rattle.journey.proofs.journey.Goals.{Start, After-decide}
 
 -- the report that the call is given
 abbrev given : Start → Report
-given c = report c.args.n c.args.status.now c.args.links.now
+given c = reported c.args.report.now
 
 -- the number by which it is refused before filling
 abbrev number : Start → ℕ
 number c = journey_refusal (given c) c.args.vectors.now c.args.picks.now c.args.path.now c.args.s.0 c.args.d.0
 
--- the path by a route
-abbrev path_of : Start → Reply Route → List ℕ
-path_of c x = path_by x c.args.s.0 c.args.path.now
+-- the route over Fill's vectors
+abbrev way : Start → Reply Route
+way c = route (given c) c.args.picks.now c.args.s.0 c.args.d.0
 
-pub returns-then-number-ne0 : goal.returns-then-number-ne0
-unfolding journey outcome vectors_after path_after path_by
-returns-then-number-ne0 c =
-    let start = (goal.at.returns-then-number-ne0 c).Start in
-    let e = c.journey_refusal-number.ensures in
-    let some : number start ≡ 0 → ⊥ = λ z. c.if-number-ne0.true (e ∙ z) in
-    let j = unless_some (number start) (route (given start) c.args.picks.now c.args.s.0 c.args.d.0) some in
-    (ap refused e ∙ sym (ap outcome j), sym (kept_some (number start) _ _ some), sym (ap (path_of start) j))
+-- a refusal before filling
+pub returns-in_err-tested-clause-answer : goal.returns-in_err-tested-clause-answer
+unfolding journey outcome
+returns-in_err-tested-clause-answer c =
+    let start = (goal.at.returns-in_err-tested-clause-answer c).Start in
+    let p = err_from_is_err_and c.from_residual.result c.from_residual.ensures.1 in
+    rw (p.1, p.2) (sym (ap outcome (unless_refusal (number start) (way start) _ c.in_err-tested.ensures)))
 
--- past the refusals
-clear : (c : Else-number-ne0) → Clear (report c.args.n c.args.status.now c.args.links.now) c.args.vectors.now c.args.picks.now c.args.path.now c.args.s.0 c.args.d.0
-clear c =
-    clear_of_none (report c.args.n c.args.status.now c.args.links.now) c.args.vectors.now c.args.picks.now c.args.path.now c.args.s.0 c.args.d.0 (sym c.journey_refusal-number.ensures ∙ c.if-number-ne0.false)
+pub returns-in_err-tested-clause-words : goal.returns-in_err-tested-clause-words
+unfolding vectors_after
+returns-in_err-tested-clause-words c =
+    sym (kept_refusal _ _ _ _ c.in_err-tested.ensures)
 
--- the source is decided over the vectors as they are then, and they are Fill's
-pub by_answers-requires : goal.by_answers-requires
-unfolding fill filled
-by_answers-requires c =
-    let k = clear (goal.at.by_answers-requires c).Else-number-ne0 in
-    let m = fill_refusal (given (goal.at.by_answers-requires c).Start) c.args.vectors.now in (
-      k.dim,
-      k.chosen,
-      k.room,
-      search rules,
-      c.fill-filled.ensures.1 ∙ kept_none m _ _ k.fills,
-      c.fill-filled.ensures.0 ∙ unless_none m _ k.fills,
-    )
+pub returns-in_err-tested-clause-boards : goal.returns-in_err-tested-clause-boards
+unfolding journey path_after path_by
+returns-in_err-tested-clause-boards c =
+    let start = (goal.at.returns-in_err-tested-clause-boards c).Start in
+    sym (ap (λ (x : Reply Route). path_by x c.args.s.0 c.args.path.now) (unless_refusal (number start) (way start) _ c.in_err-tested.ensures))
 
-pub returns : goal.returns
-unfolding filled journey vectors_after path_after
-returns c =
-    let start = (goal.at.returns c).Start in
-    let none = sym c.journey_refusal-number.ensures ∙ c.if-number-ne0.false in
-    let written = c.fill-filled.ensures.1 ∙ kept_none (fill_refusal (given start) c.args.vectors.now) _ _ (clear (goal.at.returns c).Else-number-ne0).fills in
-    let way = sym (unless_none (number start) _ none) in
-    (c.by_answers.ensures.0 ∙ ap outcome way, written ∙ sym (kept_none (number start) _ _ none), c.by_answers.ensures.1 ∙ ap (path_of start) way)
+-- past the refusals Fill refuses nothing
+pub unwrap-requires : goal.unwrap-requires
+unfolding fill
+unwrap-requires c =
+    let k = clear_of_none _ _ _ _ _ _ (sym c.in_ok-tested.ensures) in
+    rw (accepts (λ _. tt) _ _ (c.fill.ensures.answer ∙ unless_none _ _ k.fills)) refl
+
+-- and writes the vectors
+written : (c : After-decide) → c.fill.new.vectors ≡ vectors_of (reported c.args.report.now)
+unfolding filled
+written c =
+    c.fill.ensures.words ∙ kept_none _ _ _ (clear_of_none _ _ _ _ _ _ (sym c.in_ok-tested.ensures)).fills
+
+-- so the source is decided over them
+decided : (c : After-decide) → said c.decide.result ≡ decide (reported c.args.report.now) (vectors_of (reported c.args.report.now)) c.args.s.0 c.args.d.0
+decided c = rw (written c) at c.decide.ensures
+
+-- and what comes of the whole is what comes of that
+whole : (c : After-decide)
+    → journey (reported c.args.report.now) c.args.vectors.now c.args.picks.now c.args.path.now c.args.s.0 c.args.d.0
+    ≡ if_accepted (leave (reported c.args.report.now) c.args.picks.now c.args.s.0 c.args.d.0) (said c.decide.result)
+unfolding journey route
+whole c =
+    unless_none _ _ (sym c.in_ok-tested.ensures) ∙ ap (if_accepted (leave (reported c.args.report.now) c.args.picks.now c.args.s.0 c.args.d.0)) (sym (decided c))
+
+-- the vectors afterwards
+pub returns-in_err-kind-clause-words : goal.returns-in_err-kind-clause-words
+unfolding vectors_after
+returns-in_err-kind-clause-words c =
+    written (goal.at.returns-in_err-kind-clause-words c).After-decide ∙ sym (kept_none _ _ _ (sym c.in_ok-tested.ensures))
+
+pub returns-clause-words : goal.returns-clause-words
+unfolding vectors_after
+returns-clause-words c =
+    written (goal.at.returns-clause-words c).After-decide ∙ sym (kept_none _ _ _ (sym c.in_ok-tested.ensures))
+
+-- Decide's refusal is handed out
+pub returns-in_err-kind-clause-answer : goal.returns-in_err-kind-clause-answer
+unfolding outcome if_accepted
+returns-in_err-kind-clause-answer c =
+    let p = err_from_is_err_and c.from_residual-in_err-kind.result c.from_residual-in_err-kind.ensures.1 in
+    rw (p.1, p.2, whole (goal.at.returns-in_err-kind-clause-answer c).After-decide, c.in_err-kind.was) refl
+
+pub returns-in_err-kind-clause-boards : goal.returns-in_err-kind-clause-boards
+unfolding path_after path_by if_accepted
+returns-in_err-kind-clause-boards c =
+    rw (whole (goal.at.returns-in_err-kind-clause-boards c).After-decide, c.in_err-kind.was) refl
+
+-- and its offer goes on
+pub depart-hops-requires : goal.depart-hops-requires
+depart-hops-requires c =
+    let here = (goal.at.depart-hops-requires c).After-decide in
+    let k = clear_of_none _ _ _ _ _ _ (sym c.in_ok-tested.ensures) in
+    (k.dim, k.chosen, k.room, written here, sym (decided here) ∙ ap said c.in_ok-kind.was)
+
+pub returns-clause-answer : goal.returns-clause-answer
+unfolding outcome if_accepted leave
+returns-clause-answer c =
+    rw (whole (goal.at.returns-clause-answer c).After-decide, c.in_ok-kind.was, c.depart-hops.ensures.0) refl
+
+pub returns-clause-boards : goal.returns-clause-boards
+unfolding path_after if_accepted
+returns-clause-boards c =
+    rw (whole (goal.at.returns-clause-boards c).After-decide, c.in_ok-kind.was) c.depart-hops.ensures.1

@@ -1,28 +1,19 @@
 -- `said` tells the trips apart.
-use mathlib.Core.Path.{◌≡◌, refl}
+use mathlib.Core.Path.{◌≡◌, ap}
 use Prim.Native.Nat.{ℕ}
-use Rattle.cube.specs.Reply.{Reply, refused, accepted}
-use Rattle.cube.proofs.Reply.{one_answer}
-use Rattle.rules.specs.Rules.{Choice, home, assured, lent, detour}
-use Rattle.routing.specs.declared.Kind.TheVariants.{Home, Assured, Lent, Detour}
-use Rattle.journey.specs.Journey.{said}
+use Rattle.cube.proofs.Refusals.{one_answer_by}
+use Rattle.rules.specs.Rules.{Choice}
+use Rattle.routing.specs.declared.Kind.{Kind}
+use Rattle.journey.specs.Journey.{told_of}
 use Rattle.journey.specs.declared.Trip.{Trip}
-use Rattle.journey.specs.declared.Trip.TheVariants.{Arrived, Refused}
+use Rattle.routing.proofs.Choices.{kind_of, kind_back}
 use Rattle.journey.proofs.one_trip.Goals as goal
 
-abbrev back : Reply (Choice × ℕ) → Trip
-back (accepted (home, made)) = Arrived Home made
-back (accepted (assured p h, made)) = Arrived (Assured (record { mask = p; hops = h })) made
-back (accepted (lent p h, made)) = Arrived (Lent (record { mask = p; hops = h })) made
-back (accepted (detour q h, made)) = Arrived (Detour (record { mask = q; hops = h })) made
-back (refused m) = Refused m
+abbrev back : Choice × ℕ → Trip
+back t = record { kind = kind_of t.0; hops = t.1 }
 
-back_said : (r : Trip) → back (said r) ≡ r
-back_said (Arrived Home made) = refl
-back_said (Arrived (Assured o) made) = refl
-back_said (Arrived (Lent o) made) = refl
-back_said (Arrived (Detour o) made) = refl
-back_said (Refused m) = refl
+back_told : (t : Trip) → back (told_of t) ≡ t
+back_told t = ap (λ (k : Kind). record { kind = k; hops = t.hops }) (kind_back t.kind)
 
 pub returns : goal.returns
-returns c = one_answer said back back_said
+returns c = one_answer_by told_of back back_told

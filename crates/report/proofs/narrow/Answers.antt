@@ -1,6 +1,6 @@
 -- `report::narrow` meets its contract.
-use mathlib.Core.Path.{ap, sym, ◌∙◌}
-use Prim.Native.Nat.{ℕ, ◌^◌, min}
+use mathlib.Core.Path.{◌∙◌}
+use Prim.Native.Nat.{◌^◌, min}
 use lib.Dec.{ltb}
 use Rattle.std.proofs.Common.{rules, tests}
 use Rattle.std.proofs.lemmas.Iterator.{YieldsList-from_slice}

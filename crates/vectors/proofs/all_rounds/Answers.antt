@@ -1,6 +1,6 @@
 -- `vectors::all_rounds` meets its contract.
-use mathlib.Core.Path.{◌≡◌, ap, sym, ◌∙◌}
-use Prim.Native.Nat.{ℕ, ◌^◌}
+use mathlib.Core.Path.{ap, ◌∙◌}
+use Prim.Native.Nat.{ℕ}
 use lib.ListN.{length, replicate}
 use Rattle.cube.proofs.Table.{length_table}
 use Rattle.report.specs.Report.{reported}

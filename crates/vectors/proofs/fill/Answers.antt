@@ -1,10 +1,10 @@
 -- `vectors::fill` meets its contract: a refusal changes nothing, and else the rounds write every vector.
-use mathlib.Core.Path.{◌≡◌, ap, sym, ◌∙◌}
+use mathlib.Core.Path.{sym, ◌∙◌}
 use Rattle.std.proofs.Common.{rules}
 use Rattle.cube.proofs.Reply.{unless_none, kept_none}
 use Rattle.cube.proofs.Refusals.{unless_refusal, kept_refusal}
 use Rattle.report.specs.Report.{reported, cube}
-use Rattle.vectors.specs.Fill.{fill_refusal, fill, filled}
+use Rattle.vectors.specs.Fill.{fill, filled}
 use Rattle.vectors.proofs.Rounds.{after_all}
 use Rattle.vectors.proofs.Accepted.{accepted_size}
 use Rattle.vectors.proofs.fill.Goals as goal

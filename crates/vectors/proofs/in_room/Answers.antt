@@ -1,5 +1,5 @@
 -- `vectors::in_room` meets its contract: the parts that it lends lie within its arrays, and over the masks of the faulty links the rounds give what the report says.
-use mathlib.Core.Path.{◌≡◌, ap, ◌∙◌}
+use mathlib.Core.Path.{ap, ◌∙◌}
 use mathlib.Core.List.{List}
 use Prim.Native.Nat.{ℕ}
 use native.Mathlib.Omega.{arith}

@@ -1,24 +1,24 @@
--- `journey::Message::follow` meets its contract: there is an offer, so the other branch is never taken.
+-- `Message::follow` meets its contract: where the pick takes a dimension that is crossed, and else nothing is.
 use mathlib.Core.Path.{ap, sym, ◌∙◌}
-use Prim.Native.Nat.{ℕ}
 use native.Mathlib.Nat.{le_trans, le_of_eq}
+use lib.Bits.{xor_zero_r}
 use Rattle.cube.specs.Bits.{flip}
 use Rattle.cube.proofs.Bits.{crossed_flip}
-use Rattle.routing.specs.Hop.{said}
-use Rattle.pick.specs.Pick.{taken}
-use Rattle.pick.proofs.Pick.{taken_le}
-use Rattle.journey.proofs.Messages.{no_offer, same_offer}
+use Rattle.pick.proofs.Pick.{taken_le, named_some, named_none}
 use Rattle.journey.proofs.Message.follow.Goals as goal
 
 pub returns-in_default : goal.returns-in_default
-returns-in_default c = absurd (no_offer c.args.answer c.in_default.not-Offered c.requires.1)
+unfolding flip
+returns-in_default c =
+    let m = c.args.self in
+    let none = named_none _ c.in_default.ensures in
+    (rw none (sym (xor_zero_r m.node.0)), rw none (sym (xor_zero_r m.nav.0)))
 
 pub returns : goal.returns
-returns c mask q =
-    let i = c.taken-i in
+returns c =
     let m = c.args.self in
-    let along = i.ensures ∙ ap (λ (k : ℕ). taken c.args.n k c.args.pick) (same_offer (sym (ap said c.in-Offered.is) ∙ q)) in
-    let low = le_trans (le_of_eq along) (le_trans (taken_le c.args.n mask c.args.pick) c.requires.0) in (
-      c.neighbour.ensures ∙ crossed_flip m.node.0 i.result low ∙ ap (flip m.node.0) along,
-      c.crossed.ensures ∙ crossed_flip m.nav.0 i.result low ∙ ap (flip m.nav.0) along,
+    let along = named_some _ _ c.in-Some.ensures in
+    let low = le_trans (le_of_eq along) (le_trans (taken_le c.args.n c.args.mask c.args.pick) c.requires) in (
+      c.neighbour.ensures ∙ crossed_flip m.node.0 _ low ∙ ap (flip m.node.0) along,
+      c.crossed.ensures ∙ crossed_flip m.nav.0 _ low ∙ ap (flip m.nav.0) along,
     )

@@ -12,7 +12,7 @@ use Rattle.vectors.proofs.Rounds.{midst_start, midst_end, midst_step, midst_word
 use Rattle.vectors.proofs.Seen.round.Goals as goal
 use Rattle.vectors.proofs.Seen.round.Goals.{After-next_bit}
 
-at_board : (c : After-next_bit) → c.loop-a.a < 2 ^ c.args.self.now.report.now.n
+at_board : (c : After-next_bit) → c.loop-a.a < 2 ^ c.args.self.now.report.n
 unfolding known
 at_board c = omega (arith, c.loop-a.invariant.long)
 

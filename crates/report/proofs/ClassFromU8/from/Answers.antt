@@ -1,8 +1,8 @@
--- `report::class_of` meets its contract: each arm is one row of the table of classes.
+-- The conversion of a status byte meets its contract: each arm is one row of the table of classes.
 use native.Mathlib.Omega.{arith}
 use borrow.Author.Tests.{le-leb, lt-leb, ne_eqb}
 use Rattle.report.specs.Class.{class_of}
-use Rattle.report.proofs.class_of.Goals as goal
+use Rattle.report.proofs.ClassFromU8.from.Goals as goal
 
 pub returns-in-0 : goal.returns-in-0
 unfolding class_of
