@@ -3,14 +3,13 @@ use mathlib.Core.Path.{◌≡◌, refl, sym, ap, ◌∙◌}
 use mathlib.Core.Bool.{Bool, true, false, not, cond}
 use mathlib.Core.List.{List, [], ◌∷◌, ◌++◌}
 use mathlib.Core.Logic.{⊎_elim}
-use Prim.Native.Nat.{ℕ, zero, suc, ◌+◌, ◌/◌, ◌%◌, ◌≤◌, ◌<◌, min}
+use Prim.Native.Nat.{ℕ, zero, suc, ◌+◌, ◌-◌, ◌%◌, ◌≤◌, ◌<◌, min}
 use native.Mathlib.Omega.{arith}
 use borrow.Author.Tests.{leb-true, leb-false, le-leb, lt-leb, eq-eqb, ne_eqb}
 use lib.Dec.{leb}
 use lib.ListN.{length, get_or, set}
 use lib.Seq.{get_or-set_same, get_or-set_other}
-use Rattle.cube.specs.Count.{one}
-use Rattle.cube.proofs.Order.{lt_or_ge, eq_or_ne}
+use Rattle.cube.proofs.Order.{eq_or_ne}
 use Rattle.record.specs.Open.{word}
 use Rattle.log_rules.specs.Log.{node_in, age, ahead, usable, ages, age_byte, least, status_byte}
 use Rattle.log_rules.specs.Refresh.{younger}
@@ -62,10 +61,10 @@ age_byte_lem x = go (leb x 252) refl
     go true e = omega (arith, leb-true x 252 e)
     go false e = omega (arith, leb-false x 252 e)
 
--- a number that the record's sweep, added to, wraps to the present one is its age
-pub age_wraps : (sweep : ℕ) (r : List ℕ) (x : ℕ) → x < 65536 → word r 4 < 65536 → (x + word r 4) % 65536 ≡ sweep → x ≡ age sweep r
+-- a wrapping subtraction gives the age
+pub age_wraps : (sweep : ℕ) (r : List ℕ) → word r 4 < 65536 → (sweep + (65536 - word r 4)) % 65536 ≡ age sweep r
 unfolding age
-age_wraps sweep r x h l e = omega arith
+age_wraps sweep r h = omega arith
 
 -- the byte of an age from the future, and of any other
 pub byte_ahead : (x : ℕ) → 32768 ≤ x → cond (leb 32768 x) 0 (age_byte x) ≡ 0
@@ -73,14 +72,6 @@ byte_ahead x h = rw (le-leb 32768 x h)
 
 pub byte_aged : (x : ℕ) → x < 32768 → cond (leb 32768 x) 0 (age_byte x) ≡ min (x + 1) 253
 byte_aged x h = rw (lt-leb 32768 x h) (age_byte_lem x)
-
--- the top bit of an age tells the future
-pub top_bit : (x : ℕ) → x < 65536 → x / 32768 ≡ one (leb 32768 x)
-top_bit x h =
-    ⊎_elim
-    (λ (l : x < 32768). rw (lt-leb 32768 x l) (omega arith))
-    (λ (l : 32768 ≤ x). rw (le-leb 32768 x l) (omega arith))
-    (lt_or_ge x 32768)
 
 -- what a record says of its own node
 own_byte : (sweep : ℕ) (r : List ℕ) → status_byte (ages sweep (node_in r) (r ∷ [])) ≡ cond (leb 32768 (age sweep r)) 0 (age_byte (age sweep r))

@@ -1,7 +1,5 @@
 -- A sweep number as a person types it.
-use Rattle.std.specs.Prelude.{ℕ, ◌+◌, ◌-◌, ◌*◌, Bool, true, ◌&&◌, cond, List, [], ◌∷◌, leb, ltb, length}
-use Rattle.status_log.specs.declared.Sweep.{Sweep}
-use Rattle.status_log.specs.declared.Sweep.TheVariants.{Number, NoNumber}
+use Rattle.std.specs.Prelude.{ℕ, ◌+◌, ◌-◌, ◌*◌, Bool, true, ◌&&◌, cond, List, [], ◌∷◌, leb, ltb, length, Option, Some, None}
 
 -- every byte is a value digit
 unfoldable pub digits : List ℕ → Bool
@@ -14,6 +12,6 @@ value x [] = x
 value x (b ∷ bs) = value (10 * x + (b - 48)) bs
 
 -- the sweep that a text names: at least one digit, nothing else, and at most 65,535
-unfoldable pub sweep_in : List ℕ → Sweep
+unfoldable pub sweep_in : List ℕ → Option ℕ
 unfolding digits value
-sweep_in text = cond (ltb 0 (length text) && (digits text && leb (value 0 text) 65535)) (Number (value 0 text)) NoNumber
+sweep_in text = cond (ltb 0 (length text) && (digits text && leb (value 0 text) 65535)) (Some (value 0 text)) None

@@ -1,7 +1,8 @@
 // The controller's status log: status bytes made from its records.
 #![tactic(auto)]
 
-ghost use Rattle.std.specs.Prelude.{◌≡◌, true, cond, ◌<◌, leb, length, get_or, set, replicate};
+ghost use Rattle.std.specs.Prelude.{◌≡◌, true, cond, ◌<◌, leb, length, get_or, set};
+ghost use Rattle.cube.specs.Refusals.{refused_by};
 ghost use Rattle.cube.specs.Reply.{OneAnswer, refusal};
 ghost use Rattle.log_rules.specs.Log.{records, node_in, skipped, age_byte};
 ghost use Rattle.log_rules.specs.Refresh.{tests, log_refusal, refreshed, status_after, younger, updated, update_after};
@@ -9,49 +10,27 @@ ghost use Rattle.log_rules.specs.Sound.{sound};
 ghost use Rattle.status_log.specs.Answer.{said};
 ghost use Rattle.status_log.specs.Sweep.{sweep_in};
 
-use cube::refused_unless;
+use cube::Refusal;
 use record::word_at;
 
-// What Refresh answers: how many records from the future were skipped, or the refusal's number.
-#[derive(Clone, Copy)]
-pub enum Refreshed {
-    Done(usize),
-    Refused(u32),
-}
-
-// A sweep number as a person types it.
-#[derive(Clone, Copy)]
-pub enum Sweep {
-    Number(u16),
-    NoNumber,
-}
-
-// The number of the first record's refusal that has one, 0 for none.
-fn records_refusal(log: &[u8], n: u32) -> u32
-    ensures { result ≡ refusal (tests n (records log.now)) }
+// The first record's refusal that has one; a record cut short at the end has one.
+fn check_all(log: &[u8], n: u32) -> Result<(), Refusal>
+    ensures { refused_by result ≡ refusal (tests n (records log.now)) }
 {
-    let mut at: usize = 0;
-    while 8 <= log.len() - at {
-        let end = at + 8;
-        let first = log_record::record_refusal(&log[at..end], n);
-        if first != 0 {
-            return first;
-        }
-        at = end;
+    for row in log.chunks(8) {
+        log_record::check(row, n)?;
     }
-    if at < log.len() {
-        return 11;
-    }
-    0
+    Ok(())
 }
 
-// The number of the first refusal, 0 where there is none.
-fn log_refusal(n: u32, log: &[u8], status: &[u8]) -> u32
-    ensures { result ≡ log_refusal n log.now status.now }
+// What is tested before anything is written.
+#[tactic(auto, using(cube::proofs::Refusals::failed, cube::proofs::Refusals::holds), unfolding(log_rules::specs::Refresh::log_refusal, cube::specs::Reply::refusal, report::specs::Report::sized))]
+fn tested(n: u32, log: &[u8], status: &[u8]) -> Result<(), Refusal>
+    ensures { refused_by result ≡ log_refusal n log.now status.now }
 {
-    let by_record = records_refusal(log, n);
-    let by_2 = refused_unless(report::sized(n, status.len()), 2, by_record);
-    refused_unless(report::dimension(n), 1, by_2)
+    Refusal::Dimension.unless(report::dimension(n))?;
+    Refusal::Length.unless(report::sized(n, status.len()))?;
+    check_all(log, n)
 }
 
 // Lets a record of this age speak for its node.
@@ -61,9 +40,8 @@ fn put(row: &[u8], age: u16, status: &mut [u8])
         let node = node_in row.now in
         status.new ≡ set before node (younger (get_or before node 0) (cond (leb 32768 age) 0 (age_byte age))) }
 {
-    let node = word_at(row, 6) as usize;
-    let byte = log_record::byte_of(age);
-    status[node] = log_record::younger(status[node], byte);
+    let board = &mut status[usize::from(word_at(row, 6))];
+    *board = log_record::younger(*board, log_record::byte_of(age));
 }
 
 // Lets every record of a log speak, and counts those from the future.
@@ -72,80 +50,51 @@ fn put_all(log: &[u8], sweep: u16, status: &mut [u8]) -> usize
     ensures count { result ≡ skipped sweep (records log.now) }
     ensures boards { status.new ≡ updated sweep log.now status.old }
 {
-    let mut at: usize = 0;
-    let mut count: usize = 0;
-    while at < log.len() {
-        let end = at + 8;
-        let age = log_record::age(&log[at..end], sweep);
-        count += log_record::skip(age);
-        put(&log[at..end], age, status);
-        at = end;
+    let mut count = 0;
+    for row in log.chunks_exact(8) {
+        let age = log_record::age(row, sweep);
+        count += usize::from(log_record::is_future(age));
+        put(row, age, status);
     }
     count
 }
 
-// Makes every status byte 0: no board was heard.
-fn clear(status: &mut [u8])
-    ensures { status.new ≡ replicate (length status.old) 0 }
-{
-    let mut a: usize = 0;
-    while a < status.len() {
-        status[a] = 0;
-        a += 1;
-    }
-}
-
 // Makes the status bytes of all 2^n nodes from a log, and answers how many of its records are from the future.
-pub fn refresh(n: u32, sweep: u16, log: &[u8], status: &mut [u8]) -> Refreshed
+#[tactic(auto, using(cube::proofs::Refusals::unless_refusal, cube::proofs::Refusals::kept_refusal, cube::proofs::Reply::unless_none, cube::proofs::Reply::kept_none, log_rules::proofs::Updates::sound_none, log_rules::proofs::Updates::refresh_done), unfolding(log_rules::specs::Refresh::refreshed, log_rules::specs::Refresh::status_after))]
+pub fn refresh(n: u32, sweep: u16, log: &[u8], status: &mut [u8]) -> Result<usize, Refusal>
     ensures answer { said result ≡ refreshed n sweep log.now status.old }
     ensures boards { status.new ≡ status_after n sweep log.now status.old }
 {
-    let number = log_refusal(n, log, status);
-    if number != 0 {
-        return Refreshed::Refused(number);
-    }
-    clear(status);
-    let count = put_all(log, sweep, status);
-    Refreshed::Done(count)
+    tested(n, log, status)?;
+    status.fill(0);
+    Ok(put_all(log, sweep, status))
 }
 
 // Refresh for a log that comes in parts of whole records: over status bytes that are all 0 before the first part.
-pub fn update(n: u32, sweep: u16, part: &[u8], status: &mut [u8]) -> Refreshed
+#[tactic(auto, using(cube::proofs::Refusals::unless_refusal, cube::proofs::Refusals::kept_refusal, cube::proofs::Reply::unless_none, cube::proofs::Reply::kept_none, log_rules::proofs::Updates::sound_none), unfolding(log_rules::specs::Refresh::refreshed, log_rules::specs::Refresh::update_after))]
+pub fn update(n: u32, sweep: u16, part: &[u8], status: &mut [u8]) -> Result<usize, Refusal>
     ensures answer { said result ≡ refreshed n sweep part.now status.old }
     ensures boards { status.new ≡ update_after n sweep part.now status.old }
 {
-    let refused = log_refusal(n, part, status);
-    if refused != 0 {
-        return Refreshed::Refused(refused);
-    }
-    let skipped = put_all(part, sweep, status);
-    Refreshed::Done(skipped)
+    tested(n, part, status)?;
+    Ok(put_all(part, sweep, status))
 }
 
 // The sweep that a text of decimal digits names.
-pub fn sweep_of(text: &[u8]) -> Sweep
+pub fn sweep_of(text: &[u8]) -> Option<u16>
     ensures { result ≡ sweep_in text.now }
 {
-    if text.len() == 0 {
-        return Sweep::NoNumber;
+    if text.is_empty() {
+        return None;
     }
-    let mut x: u32 = 0;
-    let mut i: usize = 0;
-    while i < text.len() {
-        let byte = text[i];
-        if byte < 48 {
-            return Sweep::NoNumber;
+    let mut x: u16 = 0;
+    for byte in text {
+        if !byte.is_ascii_digit() {
+            return None;
         }
-        if 57 < byte {
-            return Sweep::NoNumber;
-        }
-        x = 10 * x + (byte - 48) as u32;
-        if 65535 < x {
-            return Sweep::NoNumber;
-        }
-        i += 1;
+        x = x.checked_mul(10)?.checked_add(u16::from(*byte - b'0'))?;
     }
-    Sweep::Number(x as u16)
+    Some(x)
 }
 
 // For every input the contracts of `refresh` and `update` allow one answer; the status bytes are given by `status_after` and `update_after`.

@@ -1,62 +1,52 @@
--- `status_log::put_all` meets its contract.
-use borrow.Author.Rules.{rules}
-use mathlib.Core.Path.{refl}
+-- `status_log::put_all` meets its contract: each record in turn, and at the end all have spoken.
+use mathlib.Core.Path.{◌≡◌, ap, ◌∙◌}
+use mathlib.Core.Bool.{Bool, true, false}
+use Prim.Native.Nat.{ℕ, ◌≤◌}
 use native.Mathlib.Omega.{arith}
-use lib.Dec.{leb}
-use lib.ListN.{length}
-use Rattle.log_rules.proofs.Refusals.{sound_at}
-use Rattle.log_rules.proofs.Updates.{skip_le, skipped_next, skipped_end, tells_next, tells_end}
+use lib.ListN.{length, length-append, length-set}
+use Rattle.std.specs.Int.{from_bool}
+use Rattle.cube.specs.Count.{one}
+use Rattle.log_rules.proofs.Records.{records_whole}
+use Rattle.log_rules.proofs.Refusals.{sound_next, sound_end}
+use Rattle.log_rules.proofs.Updates.{skipped_next, skipped_end, tells_next, tells_end}
 use Rattle.status_log.proofs.put_all.Goals as goal
 
-pub loop-at-init : goal.loop-at-init
-loop-at-init c = (omega arith, (omega arith, (c.requires, (omega arith, (refl, λ a h. refl)))))
-
-pub overflow_add-end : goal.overflow_add-end
-overflow_add-end c = omega (arith, (sound_at (length c.args.status.now) c.args.log.now c.loop-at.at (omega arith) c.loop-at.invariant.1.1.0).whole)
-
-pub slice_bounds-age-end : goal.slice_bounds-age-end
-slice_bounds-age-end c = search (rules, (sound_at (length c.args.status.now) c.args.log.now c.loop-at.at (omega arith) c.loop-at.invariant.1.1.0).whole)
-
-pub overflow_add-count : goal.overflow_add-count
-overflow_add-count c = omega (arith, skip_le (leb 32768 c.age-age.result) _ c.skip-count.ensures)
-
-pub slice_bounds-put-end : goal.slice_bounds-put-end
-slice_bounds-put-end c = search (rules, (sound_at (length c.args.status.now) c.args.log.now c.loop-at.at (omega arith) c.loop-at.invariant.1.1.0).whole)
+-- a record counts at most once
+counts : (b : Bool) (k : ℕ) → k ≡ from_bool b → (k ≡ one b) × (k ≤ 1)
+counts true k e = (e, omega arith)
+counts false k e = (e, omega arith)
 
 pub put-requires : goal.put-requires
-put-requires c = omega (arith, (sound_at (length c.args.status.now) c.args.log.now c.loop-at.at (omega arith) c.loop-at.invariant.1.1.0).node)
+put-requires c =
+    let kept = c.loop-row.invariant in
+    let step = c.in-Some.ensures.steps in
+    let next = records_whole _ _ _ step.1.0 (step.1.1 ∙ kept.0) in
+    omega (arith, (sound_next _ _ _ _ next kept.2).0, kept.4)
 
-pub loop-at-smaller : goal.loop-at-smaller
-loop-at-smaller c = omega (arith, (sound_at (length c.args.status.now) c.args.log.now c.loop-at.at (omega arith) c.loop-at.invariant.1.1.0).whole)
-
-pub loop-at-preserved : goal.loop-at-preserved
-loop-at-preserved c =
-    let d = c.args in
-    let l = c.loop-at in
-    let s = sound_at (length d.status.now) d.log.now l.at (omega arith) l.invariant.1.1.0 in
-    let aged = c.age-age.ensures in (
-      s.whole,
-      (
-        omega (arith, skip_le (leb 32768 c.age-age.result) _ c.skip-count.ensures),
-        (
-          s.rest,
-          (
-            skipped_next d.sweep d.log.now l.at _ s.whole aged _ _ _ l.invariant.1.1.1.0 c.skip-count.ensures,
-            (
-              search rules,
-              tells_next d.sweep d.log.now l.at _ s.whole aged d.status.now l.status _ l.invariant.1.1.1.1.0 l.invariant.1.1.1.1.1
-                  c.put.ensures,
-            ),
-          ),
-        ),
-      ),
+pub loop-row-preserved : goal.loop-row-preserved
+loop-row-preserved c =
+    let a = c.args in
+    let kept = c.loop-row.invariant in
+    let step = c.in-Some.ensures.steps in
+    let next = records_whole _ _ _ step.1.0 (step.1.1 ∙ kept.0) in
+    let aged = c.age-age.ensures in
+    let k = counts _ _ c.from-count.ensures in (
+      step.0 ∙ kept.0,
+      omega (arith, k.1, kept.0, kept.1, step.1.1, ap length step.1.0 ∙ length-append c.in-Some.row.now _),
+      (sound_next _ _ _ _ next kept.2).1,
+      omega (arith, k.0 ∙ ap one c.is_future.ensures, skipped_next a.sweep _ _ _ _ next aged c.loop-row.count, kept.3),
+      ap length c.put.ensures ∙ simp length-set kept.4,
+      tells_next a.sweep _ _ _ _ next aged a.log.now a.status.now _ _ kept.4 kept.5 c.put.ensures,
     )
 
-pub returns : goal.returns
-returns c =
-    let d = c.args in
-    let l = c.loop-at in
-    record {
-      count = omega (arith, skipped_end d.sweep d.log.now l.at (omega arith));
-      boards = tells_end d.sweep d.log.now d.status.now l.at l.status (omega arith) l.invariant.1.1.1.1.0 l.invariant.1.1.1.1.1;
-    }
+pub returns-clause-count : goal.returns-clause-count
+returns-clause-count c =
+    let kept = c.loop-row.invariant in
+    let end = sound_end _ _ (omega (arith, c.in-None.ensures.steps.1.0, kept.0)) kept.2 in
+    omega (arith, kept.3, skipped_end c.args.sweep _ end)
+
+pub returns-clause-boards : goal.returns-clause-boards
+returns-clause-boards c =
+    let kept = c.loop-row.invariant in
+    let end = sound_end _ _ (omega (arith, c.in-None.ensures.steps.1.0, kept.0)) kept.2 in
+    tells_end c.args.sweep c.args.log.now _ _ _ end kept.4 kept.5
