@@ -185,13 +185,11 @@ impl Asked {
     }
 }
 
-// How many boards are of such a class.
-fn count<Is: Fn(Class) -> bool>(status: &[u8], is: Is) -> usize
-    requires { (f : _) (class : _) → Is.pre f class }
-{
+// How many boards are of a class.
+fn count(status: &[u8], class: Class) -> usize {
     status
         .iter()
-        .filter(|byte| is(report::class_of(**byte)))
+        .filter(|byte| Class::from(**byte) == class)
         .count()
 }
 
@@ -201,9 +199,9 @@ fn tell(rt: &HostRuntime, reading: Reading, sweep: u16, status: &[u8]) {
     let _ = eprintln!(rt;
         "refresh: records read: {records}, of these from the future and skipped: {skipped}"
     );
-    let silent = count(status, |class| matches!(class, Class::Silent));
-    let working = count(status, |class| matches!(class, Class::Working));
-    let late = count(status, |class| matches!(class, Class::Late));
+    let silent = count(status, Class::Silent);
+    let working = count(status, Class::Working);
+    let late = count(status, Class::Late);
     let _ = eprintln!(rt; "refresh: boards silent: {silent}, working: {working}, late: {late}");
     if working == 0 {
         let _ = eprintln!(rt;

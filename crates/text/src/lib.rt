@@ -67,8 +67,7 @@ fn put_lines(page: &mut Page, report: &Report, vectors: &[u16])
         Puts lines page.old page.new }
 {
     for (a, byte) in report.status.iter().enumerate() {
-        let class = report::class_of(*byte);
-        put_line(page, report.n, class, vectors, Node(a as u16));
+        put_line(page, report.n, Class::from(*byte), vectors, Node(a as u16));
     }
 }
 

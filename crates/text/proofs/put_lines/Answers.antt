@@ -14,7 +14,7 @@ loop-a-init c = puts_none _
 
 pub loop-a-preserved : goal.loop-a-preserved
 unfolding line_of
-loop-a-preserved c = rw (joined_next, ← c.class_of-class.ensures) (puts_then c.loop-a.invariant c.put_line.ensures)
+loop-a-preserved c = rw (joined_next, ← c.from.ensures) (puts_then c.loop-a.invariant c.put_line.ensures)
 
 pub returns : goal.returns
 returns c =
