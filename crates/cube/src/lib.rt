@@ -1,7 +1,7 @@
 // Nodes and relative addresses of a cube, kept apart. Exclusive or is the only bridge between them.
 #![tactic(auto)]
 
-ghost use Rattle.std.specs.Prelude.{◌≡◌, not, cond, eqb};
+ghost use Rattle.std.specs.Prelude.{◌≡◌, eqb};
 ghost use Rattle.std.specs.Int.Bits.{bit_xor};
 ghost use Rattle.cube.specs.Bits.{crossed, weight};
 
@@ -75,11 +75,4 @@ impl Nav {
     {
         self.0 == 0
     }
-}
-
-// A list of refusals from one of its tests on: this test's number unless it passes, else what the later ones say.
-pub fn refused_unless(passes: bool, number: u32, later: u32) -> u32
-    ensures { result ≡ cond (not passes) number later }
-{
-    if passes { later } else { number }
 }

@@ -21,7 +21,7 @@ ghost use Rattle.deruvain.specs.Numbers.{class_number, kind_number, room_number,
 
 use cube::{Nav, Node, Refusal};
 use journey::Trip;
-use report::Report;
+use report::{Class, Report};
 use routing::Kind;
 
 // A job's answer: the refusal's number, 0 for an acceptance, and the acceptance's numbers, 0 after a refusal.
@@ -55,7 +55,7 @@ pub struct Refreshed {
 pub extern "C" fn deruvain_class(byte: u8) -> u32
     ensures { result ≡ class_number (class_of byte) }
 {
-    report::class_of(byte) as u32
+    Class::from(byte) as u32
 }
 
 // The number of a job that answers nothing else: its refusal's, 0 for none.
@@ -284,7 +284,10 @@ pub extern "C" fn deruvain_update(n: u32, sweep: u16, part: &[u8], status: &mut 
 fn has_room(bytes: &[u8], status: &[u8]) -> bool
     ensures { result ≡ leb (5 + length status.now) (length bytes.now) }
 {
-    bytes.len().checked_sub(5).is_some_and(|room| status.len() <= room)
+    bytes
+        .len()
+        .checked_sub(5)
+        .is_some_and(|room| status.len() <= room)
 }
 
 // Restate: the refusal's number, 0 for done.
