@@ -22,7 +22,7 @@ impl<T> List<T> {
         &self.values[..self.size]
     }
 
-    // Its numbers, as lent memory.
+    // Its numbers, as lent memory. The proof follows one step at a time here.
     pub(crate) fn items_mut(&mut self) -> &mut [T] {
         let size = self.size;
         let values = &mut self.values;

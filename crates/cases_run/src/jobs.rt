@@ -18,57 +18,28 @@ fn listing(out: Stdout, record: &[u8]) {
     say::barred(out, &listed[..length]);
 }
 
-// What a job over a report answers.
-fn routed(job: u8, given: &mut Given) -> Result<Answer, Refusal> {
-    let report = Report {
-        n: given.n,
-        status: given.bytes.items(),
-        links: given.links.items(),
-    };
-    let vectors = given.vectors.items_mut();
-    let s = Node(given.a);
-    let d = Node(given.b);
-    match job {
-        b'f' => vectors::fill(&report, vectors).map(|()| Answer::Filled),
-        b'd' => routing::decide(&report, vectors, s, d).map(Answer::Decided),
-        b'h' => routing::hop(&report, vectors, s, Nav(given.b)).map(Answer::Hopped),
-        _ => journey::journey(
-            &report,
-            vectors,
-            given.more.items(),
-            given.path.items_mut(),
-            s,
-            d,
-        )
-        .map(Answer::Made),
-    }
-}
-
 // What the job of a letter answers.
 fn answer(job: u8, given: &mut Given) -> Result<Answer, Refusal> {
+    let (n, a, b) = (given.n, given.a, given.b);
+    let bytes = given.bytes.items();
+    let vectors = given.vectors.items_mut();
+    let more = given.more.items_mut();
+    let path = given.path.items_mut();
+    let report = Report {
+        n,
+        status: bytes,
+        links: given.links.items(),
+    };
+    let (s, d) = (Node(a), Node(b));
     match job {
-        b'a' => Ok(address(given.n, Node(given.a), Node(given.b))),
-        b'o' => record::open(
-            given.bytes.items(),
-            given.more.items_mut(),
-            given.vectors.items_mut(),
-        )
-        .map(Answer::Opened),
-        b'r' => status_log::refresh(
-            given.n,
-            given.a,
-            given.bytes.items(),
-            given.more.items_mut(),
-        )
-        .map(Answer::Refreshed),
-        b'u' => status_log::update(
-            given.n,
-            given.a,
-            given.bytes.items(),
-            given.more.items_mut(),
-        )
-        .map(Answer::Refreshed),
-        b'f' | b'd' | b'h' | b'j' => routed(job, given),
+        b'a' => Ok(address(n, s, d)),
+        b'f' => vectors::fill(&report, vectors).map(|()| Answer::Filled),
+        b'd' => routing::decide(&report, vectors, s, d).map(Answer::Decided),
+        b'h' => routing::hop(&report, vectors, s, Nav(b)).map(Answer::Hopped),
+        b'j' => journey::journey(&report, vectors, more, path, s, d).map(Answer::Made),
+        b'o' => record::open(bytes, more, vectors).map(Answer::Opened),
+        b'r' => status_log::refresh(n, a, bytes, more).map(Answer::Refreshed),
+        b'u' => status_log::update(n, a, bytes, more).map(Answer::Refreshed),
         _ => Ok(Answer::Malformed),
     }
 }
