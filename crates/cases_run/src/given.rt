@@ -1,196 +1,119 @@
 // A line taken apart: its title, its job, and the numbers and lists that it gives.
-ghost use Rattle.std.specs.Prelude.{◌≡◌, ◌≤◌, ◌<◌, length};
+ghost use Rattle.std.specs.Prelude.{◌≤◌};
 
 use crate::{jobs, say};
 use std::io::Stdout;
+use std::str::{self, FromStr};
 
-// A list with 99s behind it, its length, and the place after it.
+// What a list has behind its numbers, and lent memory before a job.
+pub(crate) const LENT: u8 = 99;
+
+// A list with 99s behind it.
 #[derive(Drop)]
-struct List {
-    values: [u16; 8192],
-    size: usize,
-    end: usize,
+pub(crate) struct List<T> {
+    pub(crate) values: [T; 8192],
+    pub(crate) size: usize,
+    ghost fits: { size ≤ 8191 },
 }
 
-// A number and the place after it.
-#[derive(Clone, Copy)]
-struct Found {
-    value: usize,
-    end: usize,
+impl<T> List<T> {
+    // Its numbers.
+    pub(crate) fn items(&self) -> &[T] {
+        &self.values[..self.size]
+    }
+
+    // Its numbers, as lent memory. The proof follows one step at a time here.
+    pub(crate) fn items_mut(&mut self) -> &mut [T] {
+        let size = self.size;
+        let values = &mut self.values;
+        let all = &mut values[..];
+        &mut all[..size]
+    }
 }
 
-// The number that the digits from a place of a line on make, 2^32 for any that is not below it.
-fn digits(line: &[u8], from: usize) -> Found
-    requires { from ≤ length line.now }
-    ensures { (result.value ≤ 4294967296) × (result.end ≤ length line.now) }
+// What a case gives its job: numbers, status bytes and links, and the memory that it is lent.
+#[derive(Drop)]
+pub(crate) struct Given {
+    pub(crate) n: u32,
+    pub(crate) a: u16,
+    pub(crate) b: u16,
+    pub(crate) bytes: List<u8>,
+    pub(crate) links: List<u16>,
+    pub(crate) vectors: List<u16>,
+    pub(crate) more: List<u8>,
+    pub(crate) path: List<u16>,
+}
+
+// The number after a space at the start of the rest of a line, taken off it; if there is none of this type, the rest stays.
+fn number<T: FromStr>(rest: &mut &[u8]) -> Option<T>
+where
+    T::Err: Drop,
 {
-    let mut value: usize = 0;
-    let mut end = from;
-    while end < line.len() {
-        let byte = line[end];
-        if byte < b'0' {
-            return Found { value, end };
+    let text = rest.strip_prefix(b" ")?;
+    let end = text
+        .iter()
+        .position(|byte| !byte.is_ascii_digit())
+        .unwrap_or(text.len());
+    let (digits, behind) = text.split_at(end);
+    let value = str::from_utf8(digits).ok()?.parse().ok()?;
+    *rest = behind;
+    Some(value)
+}
+
+// The length of a list at the start of the rest of a line, taken off it; if there is none up to 8,191, it is 0 and the rest stays.
+fn size(rest: &mut &[u8]) -> usize
+    ensures { result ≤ 8191 }
+{
+    let mut ahead = *rest;
+    match number::<u16>(&mut ahead) {
+        Some(size) if size <= 8191 => {
+            *rest = ahead;
+            size as usize
         }
-        if b'9' < byte {
-            return Found { value, end };
+        _ => 0,
+    }
+}
+
+// The list that a letter heads at the start of the rest of a line, taken off it; if there is none, it is empty and the rest stays.
+fn list_of<T: FromStr + Copy + From<u8>>(rest: &mut &[u8], head: u8) -> List<T>
+where
+    T::Err: Drop,
+{
+    let mut list = List {
+        values: [T::from(LENT); 8192],
+        size: 0,
+    };
+    let Some(text) = rest.strip_prefix(&[b' ', head]) else {
+        return list;
+    };
+    *rest = text;
+    let size = size(rest);
+    list.size = size;
+    for place in list.values.iter_mut().take(size) {
+        match number(rest) {
+            Some(value) => *place = value,
+            None => break,
         }
-        value = 10 * value + (byte - b'0') as usize;
-        end += 1;
-        if 4294967295 < value {
-            return Found {
-                value: 4294967296,
-                end,
-            };
-        }
     }
-    Found { value, end }
+    list
 }
 
-// The number after a space at a place of a line, if it is at most this; else 0, and the place stays.
-fn number(line: &[u8], at: usize, most: usize) -> Found
-    requires { at ≤ length line.now }
-    ensures { (result.value ≤ most) × (result.end ≤ length line.now) }
-{
-    let none = Found { value: 0, end: at };
-    if at == line.len() {
-        return none;
-    }
-    if line[at] != b' ' {
-        return none;
-    }
-    let found = digits(line, at + 1);
-    if found.end == at + 1 {
-        return none;
-    }
-    if most < found.value {
-        return none;
-    }
-    found
-}
-
-// The place after a space and a letter at a place of a line, 0 if they don't stand there.
-fn headed(line: &[u8], at: usize, head: u8) -> usize
-    requires { at ≤ length line.now }
-    ensures { result ≤ length line.now }
-{
-    if line.len() - at < 2 {
-        return 0;
-    }
-    if line[at] != b' ' {
-        return 0;
-    }
-    if line[at + 1] != head {
-        return 0;
-    }
-    at + 2
-}
-
-// The list of numbers up to a greatest that a letter heads at a place of a line; if there is none, its length is 0 and the place stays.
-fn numbers(line: &[u8], at: usize, head: u8, most: u16) -> List
-    requires { at ≤ length line.now }
-    ensures { (8192 ≡ length result.values) × (result.size < 8192) × (result.end ≤ length line.now) }
-{
-    let mut values = [say::LENT; 8192];
-    let from = headed(line, at, head);
-    if from == 0 {
-        return List {
-            values,
-            size: 0,
-            end: at,
+impl Given {
+    // What the rest of a line gives, unless some of it is left over.
+    fn by(line: &[u8]) -> Option<Given> {
+        let mut rest = line;
+        let given = Given {
+            n: number(&mut rest).unwrap_or(0),
+            a: number(&mut rest).unwrap_or(0),
+            b: number(&mut rest).unwrap_or(0),
+            bytes: list_of(&mut rest, b'b'),
+            links: list_of(&mut rest, b'l'),
+            vectors: list_of(&mut rest, b'v'),
+            more: list_of(&mut rest, b'm'),
+            path: list_of(&mut rest, b'w'),
         };
+        if rest.is_empty() { Some(given) } else { None }
     }
-    let first = number(line, from, 8191);
-    let size = first.value;
-    let mut end = first.end;
-    for count in 0..size {
-        let next = number(line, end, most as usize);
-        if next.end == end {
-            return List { values, size, end };
-        }
-        values[count] = next.value as u16;
-        end = next.end;
-    }
-    List { values, size, end }
-}
-
-// A list of numbers up to 255, and the 99s behind it, as bytes.
-fn bytes(list: &List) -> [u8; 8192]
-    ensures { 8192 ≡ length result }
-{
-    let values = list.values;
-    let mut bytes = [0u8; 8192];
-    for i in 0..8192 {
-        bytes[i] = (values[i] % 256) as u8;
-    }
-    bytes
-}
-
-// Runs a job over these inputs and the lent memory that the rest of the line gives, unless some of the line is left over.
-fn lent(
-    out: Stdout,
-    job: u8,
-    n: u32,
-    a: u16,
-    b: u16,
-    first: &[u8],
-    links: &[u16],
-    line: &[u8],
-    at: usize,
-)
-    requires { at ≤ length line.now }
-{
-    let v = numbers(line, at, b'v', 65535);
-    let m = numbers(line, v.end, b'm', 255);
-    let w = numbers(line, m.end, b'w', 65535);
-    if w.end < line.len() {
-        return say::say(out, b"malformed");
-    }
-    let mut vectors = v.values;
-    let mut more = bytes(&m);
-    let mut path = w.values;
-    let i = v.size;
-    let j = m.size;
-    let k = w.size;
-    jobs::run(
-        out,
-        job,
-        n,
-        a,
-        b,
-        first,
-        links,
-        &mut vectors[0..i],
-        &mut more[0..j],
-        &mut path[0..k],
-    );
-    say::memory(out, job, &vectors, i, &more, j, &path, k);
-}
-
-// Runs a job over what stands behind its letter.
-fn run(out: Stdout, job: u8, line: &[u8]) {
-    let n = number(line, 0, 4294967295);
-    let a = number(line, n.end, 65535);
-    let b = number(line, a.end, 65535);
-    let dimension = n.value as u32;
-    let s = a.value as u16;
-    let d = b.value as u16;
-    let f = numbers(line, b.end, b'b', 255);
-    let l = numbers(line, f.end, b'l', 65535);
-    let first = bytes(&f);
-    let links = l.values;
-    let i = f.size;
-    let j = l.size;
-    lent(
-        out,
-        job,
-        dimension,
-        s,
-        d,
-        &first[0..i],
-        &links[0..j],
-        line,
-        l.end,
-    );
 }
 
 // Prints a line's title and runs its case.
@@ -199,11 +122,14 @@ pub(crate) fn case(out: Stdout, line: &[u8]) {
         .iter()
         .position(|byte| *byte == b':')
         .unwrap_or(line.len());
-    if line.len() - colon < 3 {
+    let Some([job, rest @ ..]) = line.get(colon + 2..) else {
         say::say(out, line);
         return say::say(out, b": malformed\n");
+    };
+    say::say(out, &line[..colon + 2]);
+    match Given::by(rest) {
+        Some(mut given) => jobs::run(out, *job, &mut given),
+        None => say::say(out, b"malformed"),
     }
-    say::say(out, &line[0..colon + 2]);
-    run(out, line[colon + 2], &line[colon + 3..]);
     say::say(out, b"\n");
 }

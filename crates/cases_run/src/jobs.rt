@@ -1,52 +1,57 @@
 // The jobs.
-use crate::say;
-use cube::{Nav, Node};
+use crate::given::Given;
+use crate::say::{self, Answer};
+use cube::{Nav, Node, Refusal};
+use report::Report;
 use std::io::Stdout;
 
-// The relative address of two nodes with a dimension crossed.
-fn address(out: Stdout, dimension: u32, s: Node, d: Node) {
+// Where a message goes from s to d, with a dimension crossed.
+fn address(dimension: u32, s: Node, d: Node) -> Answer {
     let nav = s.to(d).crossed(dimension);
-    let there = s.at(nav);
-    say::number(out, b"address ", nav.0 as u64);
-    say::number(out, b", weight ", nav.weight() as u64);
-    say::number(out, b", leads to ", there.0 as u64);
+    Answer::Address(nav, s.at(nav))
 }
 
-// The listing of a record.
+// Prints the listing of a record on one line, | for each line's end.
 fn listing(out: Stdout, record: &[u8]) {
     let mut listed = text::buffer();
     let length = text::listing(record, &mut listed);
     say::barred(out, &listed[..length]);
 }
 
-// Runs the job of a letter and prints what it answers.
-pub(crate) fn run(
-    out: Stdout,
-    job: u8,
-    n: u32,
-    a: u16,
-    b: u16,
-    bytes: &[u8],
-    links: &[u16],
-    vectors: &mut [u16],
-    more: &mut [u8],
-    path: &mut [u16],
-) {
-    let s = Node(a);
-    let d = Node(b);
+// What the job of a letter answers.
+fn answer(job: u8, given: &mut Given) -> Result<Answer, Refusal> {
+    let (n, a, b) = (given.n, given.a, given.b);
+    let bytes = given.bytes.items();
+    let vectors = given.vectors.items_mut();
+    let more = given.more.items_mut();
+    let path = given.path.items_mut();
+    let report = Report {
+        n,
+        status: bytes,
+        links: given.links.items(),
+    };
+    let (s, d) = (Node(a), Node(b));
     match job {
-        b'a' => address(out, n, s, d),
-        b'f' => say::filled(out, vectors::fill(n, bytes, links, vectors)),
-        b'd' => say::decided(out, routing::decide(n, bytes, links, vectors, s, d)),
-        b'h' => say::hopped(out, routing::hop(n, bytes, links, vectors, s, Nav(b))),
-        b'j' => say::made(
-            out,
-            journey::journey(n, bytes, links, vectors, more, path, s, d),
-        ),
-        b'o' => say::opened(out, record::open(bytes, more, vectors)),
-        b'r' => say::refreshed(out, status_log::refresh(n, a, bytes, more)),
-        b'u' => say::refreshed(out, status_log::update(n, a, bytes, more)),
-        b'l' => listing(out, bytes),
-        _ => say::say(out, b"malformed"),
+        b'a' => Ok(address(n, s, d)),
+        b'f' => vectors::fill(&report, vectors).map(|()| Answer::Filled),
+        b'd' => routing::decide(&report, vectors, s, d).map(Answer::Decided),
+        b'h' => routing::hop(&report, vectors, s, Nav(b)).map(Answer::Hopped),
+        b'j' => journey::journey(&report, vectors, more, path, s, d).map(Answer::Made),
+        b'o' => record::open(bytes, more, vectors).map(Answer::Opened),
+        b'r' => status_log::refresh(n, a, bytes, more).map(Answer::Refreshed),
+        b'u' => status_log::update(n, a, bytes, more).map(Answer::Refreshed),
+        _ => Ok(Answer::Malformed),
     }
+}
+
+// Runs the job of a letter, and prints what it answers and what it leaves in the memory that it was lent.
+pub(crate) fn run(out: Stdout, job: u8, given: &mut Given) {
+    if job == b'l' {
+        return listing(out, given.bytes.items());
+    }
+    let _ = match answer(job, given) {
+        Ok(answer) => print!(out; "{answer}"),
+        Err(refusal) => print!(out; "{refusal}"),
+    };
+    say::memory(out, job, given);
 }

@@ -51,16 +51,12 @@ fn cases(out: Stdout, text: &[u8]) {
 fn main(rt: HostRuntime) {
     let out = rt.stdout();
     let mut text = room();
-    let input = program::read_all(&mut rt.stdin(), &mut text);
-    if input.failed {
-        return say::say(out, b"cases_run: standard input can't be read\n");
-    }
-    let count = input.count;
-    if count == ROOM {
-        return say::say(
+    match program::read_all(&mut rt.stdin(), &mut text) {
+        Err(_) => say::say(out, b"cases_run: standard input can't be read\n"),
+        Ok(ROOM) => say::say(
             out,
             b"cases_run: standard input is longer than 131072 bytes\n",
-        );
+        ),
+        Ok(count) => cases(out, &text[..count]),
     }
-    cases(out, &text[..count]);
 }

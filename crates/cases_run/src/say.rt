@@ -1,165 +1,105 @@
 // Printing on standard output: what the jobs answer, and what they leave.
+use crate::given::{Given, LENT, List};
+use cube::{Nav, Node};
 use journey::Trip;
-use record::Opened;
-use routing::{Decision, Kind, Offer, Step};
-use status_log::Refreshed;
+use routing::{Kind, Offer};
+use std::fmt;
 use std::io::Stdout;
-use vectors::Filled;
 
-// What lent memory holds before a job.
-pub(crate) const LENT: u16 = 99;
+// What a job answers that doesn't refuse.
+#[derive(Clone, Copy)]
+pub(crate) enum Answer {
+    // A relative address, and where it leads.
+    Address(Nav, Node),
+    Filled,
+    Decided(Kind),
+    // The mask of a hop, if there is one to make.
+    Hopped(Option<u16>),
+    Made(Trip),
+    Opened(u32),
+    // How many records were skipped.
+    Refreshed(usize),
+    // There is no such job.
+    Malformed,
+}
+
+// How a source is accepted, in words.
+#[derive(Clone, Copy)]
+struct Words(Kind);
+
+impl fmt::Display for Words {
+    fn fmt<W: fmt::Write>(&self, f: &mut fmt::Formatter<W>) -> fmt::Result {
+        let word = match self.0 {
+            Kind::Home => return write!(f, "home"),
+            Kind::Assured(_) => "assured",
+            Kind::Lent(_) => "lent",
+            Kind::Detour(_) => "detour",
+        };
+        let Offer { mask, hops } = self.0.offer();
+        write!(f, "{word}, mask {mask}, hops {hops}")
+    }
+}
+
+impl fmt::Display for Answer {
+    fn fmt<W: fmt::Write>(&self, f: &mut fmt::Formatter<W>) -> fmt::Result {
+        match *self {
+            Answer::Address(nav, there) => write!(
+                f,
+                "address {}, weight {}, leads to {}",
+                nav.0,
+                nav.weight(),
+                there.0
+            ),
+            Answer::Filled => write!(f, "done"),
+            Answer::Decided(kind) => write!(f, "{}", Words(kind)),
+            Answer::Hopped(None) => write!(f, "arrived"),
+            Answer::Hopped(Some(mask)) => write!(f, "mask {mask}"),
+            Answer::Made(trip) => write!(f, "{}, came by {}", Words(trip.kind), trip.hops),
+            Answer::Opened(n) => write!(f, "cube {n}"),
+            Answer::Refreshed(skipped) => write!(f, "skipped {skipped}"),
+            Answer::Malformed => write!(f, "malformed"),
+        }
+    }
+}
 
 // Prints a text. Where standard output can't be written, the answers that are missing tell it.
 pub(crate) fn say(out: Stdout, text: &[u8]) {
     let _ = out.write_all(text);
 }
 
-// Prints a text and a number.
-pub(crate) fn number(out: Stdout, text: &[u8], value: u64) {
-    say(out, text);
-    let _ = out.print(value);
-}
-
-// Prints a refusal.
-fn refused(out: Stdout, by: u32) {
-    number(out, b"refused ", by as u64);
-}
-
-// Prints what Fill answers.
-pub(crate) fn filled(out: Stdout, answer: Filled) {
-    match answer {
-        Filled::Done => say(out, b"done"),
-        Filled::Refused(by) => refused(out, by),
-    }
-}
-
-// Prints a mask and the hops.
-fn offer(out: Stdout, kind: &[u8], offered: Offer) {
-    say(out, kind);
-    number(out, b", mask ", offered.mask as u64);
-    number(out, b", hops ", offered.hops as u64);
-}
-
-// Prints how a source is accepted.
-fn kind(out: Stdout, accepted: Kind) {
-    match accepted {
-        Kind::Home => say(out, b"home"),
-        Kind::Assured(offered) => offer(out, b"assured", offered),
-        Kind::Lent(offered) => offer(out, b"lent", offered),
-        Kind::Detour(offered) => offer(out, b"detour", offered),
-    }
-}
-
-// Prints what Decide answers.
-pub(crate) fn decided(out: Stdout, answer: Decision) {
-    match answer {
-        Decision::Accepted(accepted) => kind(out, accepted),
-        Decision::Refused(by) => refused(out, by),
-    }
-}
-
-// Prints what Hop answers.
-pub(crate) fn hopped(out: Stdout, answer: Step) {
-    match answer {
-        Step::Arrived => say(out, b"arrived"),
-        Step::Offered(mask) => number(out, b"mask ", mask as u64),
-        Step::Refused(by) => refused(out, by),
-    }
-}
-
-// Prints what Journey answers.
-pub(crate) fn made(out: Stdout, answer: Trip) {
-    match answer {
-        Trip::Arrived(accepted, hops) => {
-            kind(out, accepted);
-            number(out, b", came by ", hops as u64);
-        },
-        Trip::Refused(by) => refused(out, by),
-    }
-}
-
-// Prints what Open answers.
-pub(crate) fn opened(out: Stdout, answer: Opened) {
-    match answer {
-        Opened::Cube(n) => number(out, b"cube ", n as u64),
-        Opened::Refused(by) => refused(out, by),
-    }
-}
-
-// Prints what Refresh or Update answers.
-pub(crate) fn refreshed(out: Stdout, answer: Refreshed) {
-    match answer {
-        Refreshed::Done(skipped) => number(out, b"skipped ", skipped as u64),
-        Refreshed::Refused(by) => refused(out, by),
-    }
-}
-
-// Whether every place holds 99.
-fn untouched(values: &[u16]) -> bool {
-    values.iter().all(|value| *value == LENT)
-}
-
-// Prints a word after a space.
-fn word(out: Stdout, value: u16) {
-    number(out, b" ", value as u64);
-}
-
-// Prints words up to a place, and that place.
-fn words(out: Stdout, values: &[u16], last: usize) {
-    for (i, value) in values.iter().enumerate() {
-        if last < i {
-            return;
-        }
-        word(out, *value);
-    }
-}
-
-// Prints lent words after a job, and the place behind them.
-fn left(out: Stdout, name: &[u8], values: &[u16; 8192], size: usize) {
-    say(out, name);
-    if untouched(values) {
+// Prints lent memory after a job, and the place behind it.
+fn left<T: Copy>(out: Stdout, name: &str, list: &List<T>)
+where
+    u16: From<T>,
+{
+    let _ = print!(out; ", {name}");
+    if list
+        .values
+        .iter()
+        .all(|value| u16::from(*value) == LENT as u16)
+    {
         return say(out, b" unchanged");
     }
-    words(out, values, size);
-}
-
-// A byte as a word.
-fn widened(byte: u8) -> u16 {
-    byte as u16
-}
-
-// Bytes as words.
-fn wide(bytes: &[u8; 8192]) -> [u16; 8192] {
-    let mut words = [LENT; 8192];
-    for i in 0..8192 {
-        words[i] = widened(bytes[i]);
+    for value in list.values.iter().take(list.size + 1) {
+        let value = u16::from(*value);
+        let _ = print!(out; " {value}");
     }
-    words
 }
 
 // Prints the memory that a job was lent.
-pub(crate) fn memory(
-    out: Stdout,
-    job: u8,
-    vectors: &[u16; 8192],
-    i: usize,
-    more: &[u8; 8192],
-    j: usize,
-    path: &[u16; 8192],
-    k: usize,
-) {
+pub(crate) fn memory(out: Stdout, job: u8, given: &Given) {
     match job {
-        b'f' => left(out, b", vectors", vectors, i),
+        b'f' => left(out, "vectors", &given.vectors),
         b'j' => {
-            left(out, b", vectors", vectors, i);
-            left(out, b", path", path, k);
-        },
+            left(out, "vectors", &given.vectors);
+            left(out, "path", &given.path);
+        }
         b'o' => {
-            left(out, b", status", &wide(more), j);
-            left(out, b", links", vectors, i);
-        },
-        b'r' | b'u' => left(out, b", status", &wide(more), j),
-        _ => {},
+            left(out, "status", &given.more);
+            left(out, "links", &given.vectors);
+        }
+        b'r' | b'u' => left(out, "status", &given.more),
+        _ => {}
     }
 }
 

@@ -8,7 +8,8 @@ use native.Mathlib.Omega.{arith, min_cases}
 use lib.ListN.{length, get_or, take, drop, set, length-append}
 use lib.Seq.{sets, sets-eq, length-sets, set_out, take-suc, length-take-le}
 use Rattle.io.specs.Counts.{IsPrefixLen}
-use Rattle.lines.specs.Put.{Put}
+use Rattle.lines.specs.Put.{Put, Puts}
+use Rattle.lines.specs.declared.Page.{Page}
 
 -- past the end nothing is put
 sets_out : (l : List ℕ) (i : ℕ) (t : List ℕ) → length l ≤ i → sets l i t ≡ l
@@ -43,10 +44,17 @@ put_then {t} {u} {old} {new₁} {at = at} {next₁ = next₁} p q =
         (λ h e. ap (λ (k : ℕ). sets new₁ k u) (p.after ∙ ap (λ (k : ℕ). at + k) e))
         (λ h e. sets_out new₁ next₁ u (omega (arith, p.after, put_length p)) ∙ sym (sets_out new₁ (at + length t) u (omega (arith, put_length p))))
 
+-- the same of pages
+pub puts_none : (page : Page) → Puts [] page page
+puts_none page = record { put = put_none page.out.now page.at; same_reference = refl }
+
+pub puts_then : {t u : List ℕ} {old mid new : Page} → Puts t old mid → Puts u mid new → Puts (t ++ u) old new
+puts_then p q = record { put = put_then p.put q.put; same_reference = q.same_reference ∙ p.same_reference }
+
 -- the next byte of a word
-pub put_next : (word : List ℕ) (i : ℕ) {old new₁ new₂ : List ℕ} {at next₁ next₂ : ℕ} → i < length word → Put (take i word) at old new₁ next₁
-    → Put (get_or word i 0 ∷ []) next₁ new₁ new₂ next₂ → Put (take (i + 1) word) at old new₂ next₂
-put_next word i h p q = rw (add-one, take-suc word i 0) (put_then p q)
+pub puts_next : (word : List ℕ) (i : ℕ) {old mid new : Page} → i < length word → Puts (take i word) old mid
+    → Puts (get_or word i 0 ∷ []) mid new → Puts (take (i + 1) word) old new
+puts_next word i h p q = rw (add-one, take-suc word i 0) (puts_then p q)
 
 -- a text at the start of a buffer that has room for it
 pub put_whole : {t old new : List ℕ} {r : ℕ} → Put t 0 old new r → length t ≤ length old → IsPrefixLen r new × ((r ≡ length t) × (new ≡ t ++ drop r old))
@@ -56,3 +64,7 @@ put_whole {t} {old} {new} {r} p h =
     let whole : new ≡ t ++ drop r old = p.stands ∙ sets-eq t old 0 (omega arith) ∙ ap (λ (k : ℕ). t ++ drop k old) end in
     let long : r ≤ length new = omega (arith, put_length p) in
     ((long, sym (length-take-le r new long)), (size, whole))
+
+pub puts_whole : {t : List ℕ} {old new : Page} → Puts t old new → old.at ≡ 0 → length t ≤ length old.out.now
+    → IsPrefixLen new.at new.out.now × ((new.at ≡ length t) × (new.out.now ≡ t ++ drop new.at old.out.now))
+puts_whole p start h = put_whole (rw start at p.put) h

@@ -1,56 +1,72 @@
 // Words, decimal numbers and lines, put into a lent buffer as far as it goes.
 #![tactic(auto)]
 
-ghost use Rattle.std.specs.Prelude.{[], ◌∷◌};
+ghost use Rattle.std.specs.Prelude.{◌≡◌, [], ◌∷◌};
 ghost use Rattle.lines.specs.Text.{decimal, valued, titled};
-ghost use Rattle.lines.specs.Put.{Put};
+ghost use Rattle.lines.specs.Put.{Puts};
 
-// Puts a byte at a place that the buffer has, and gives the next place; past the end it puts nothing and the place stays.
-pub fn put_byte(out: &mut [u8], at: usize, byte: u8) -> usize
-    ensures { Put (byte ∷ []) at out.old out.new result }
-{
-    if out.len() <= at {
-        return at;
+// A lent buffer and the place where the next text goes.
+#[derive(Drop)]
+pub struct Page<'a> {
+    pub out: &'a mut [u8],
+    pub at: usize,
+}
+
+impl<'a> Page<'a> {
+    // A buffer, from its start on.
+    pub fn new(out: &'a mut [u8]) -> Page<'a>
+        ensures same_reference { result.out.ghost_name ≡ out.entry.ghost_name }
+        ensures bytes { result.out.now ≡ out.old }
+        ensures start { result.at ≡ 0 }
+    {
+        Page { out, at: 0 }
     }
-    out[at] = byte;
-    at + 1
 }
 
-// Puts a word.
-pub fn put(out: &mut [u8], at: usize, word: &[u8]) -> usize
-    ensures { Put word.now at out.old out.new result }
-{
-    let mut next = at;
-    let mut i: usize = 0;
-    while i < word.len() {
-        next = put_byte(out, next, word[i]);
-        i += 1;
+impl Page<'_> {
+    // Puts a byte, if the buffer has its place; past the end it puts nothing and the place stays.
+    pub fn put_byte(&mut self, byte: u8)
+        ensures { Puts (byte ∷ []) self.old self.new }
+    {
+        if self.out.len() <= self.at {
+            return;
+        }
+        self.out[self.at] = byte;
+        self.at += 1;
     }
-    next
-}
 
-// Puts a number in decimal.
-pub fn put_number(out: &mut [u8], at: usize, number: u64) -> usize
-    ensures { Put (decimal number) at out.old out.new result }
-{
-    let mut digits = [0u8; 20];
-    let count = io::decimal(number, &mut digits);
-    put(out, at, &digits[0..count])
-}
+    // Puts a word.
+    pub fn put(&mut self, word: &[u8])
+        ensures { Puts word.now self.old self.new }
+    {
+        for byte in word {
+            self.put_byte(*byte);
+        }
+    }
 
-// Puts a space, a number and the line's end.
-pub fn put_value(out: &mut [u8], at: usize, number: u64) -> usize
-    ensures { Put (valued number) at out.old out.new result }
-{
-    let spaced = put_byte(out, at, b' ');
-    let counted = put_number(out, spaced, number);
-    put_byte(out, counted, b'\n')
-}
+    // Puts a number in decimal.
+    pub fn put_number(&mut self, number: u64)
+        ensures { Puts (decimal number) self.old self.new }
+    {
+        let mut digits = [0u8; 20];
+        let count = io::decimal(number, &mut digits);
+        self.put(&digits[..count]);
+    }
 
-// Puts a line of a word and a number.
-pub fn put_titled(out: &mut [u8], at: usize, word: &[u8], number: u64) -> usize
-    ensures { Put (titled word.now number) at out.old out.new result }
-{
-    let named = put(out, at, word);
-    put_value(out, named, number)
+    // Puts a space, a number and the line's end.
+    pub fn put_value(&mut self, number: u64)
+        ensures { Puts (valued number) self.old self.new }
+    {
+        self.put_byte(b' ');
+        self.put_number(number);
+        self.put_byte(b'\n');
+    }
+
+    // Puts a line of a word and a number.
+    pub fn put_titled(&mut self, word: &str, number: u64)
+        ensures { Puts (titled word.now number) self.old self.new }
+    {
+        self.put(word.as_bytes());
+        self.put_value(number);
+    }
 }

@@ -1,49 +1,62 @@
 // Lists the record on standard input.
 #![tactic(auto)]
 
-use record::Opened;
-use std::io::Stderr;
+use cube::Refusal;
+use program::{Failed, Why};
+use std::fmt;
 
-// Says why Open refuses the bytes, where it does.
-fn by_open(err: Stderr, bytes: &[u8], opened: Opened) {
-    match opened {
-        Opened::Cube(_) => {},
-        Opened::Refused(number) => program::refused(err, b"listing", bytes, number),
+// What is said on standard error.
+#[derive(Clone, Copy)]
+enum Fault<'a> {
+    Input,
+    Output,
+    Refused(Why<'a>),
+}
+
+impl From<Failed> for Fault<'_> {
+    // Reading standard input failed.
+    fn from(_: Failed) -> Self {
+        Fault::Input
     }
 }
 
-// Says why the bytes are refused, where they are: by 10 if there are too many for Open.
-fn explain(err: Stderr, bytes: &[u8]) {
-    if 4096 < bytes.len() {
-        program::refused(err, b"listing", bytes, 10);
-        return;
+impl fmt::Display for Fault<'_> {
+    fn fmt<W: fmt::Write>(&self, f: &mut fmt::Formatter<W>) -> fmt::Result {
+        match self {
+            Fault::Input => write!(f, "standard input can't be read"),
+            Fault::Output => write!(f, "standard output can't be written"),
+            Fault::Refused(why) => write!(f, "{why}"),
+        }
     }
-    let mut status = [0u8; 1024];
-    let mut links = [0u16; 1024];
-    let opened = record::open(bytes, &mut status, &mut links);
-    by_open(err, bytes, opened);
 }
 
-// Prints the listing of the bytes in one write, and why they are refused, where they are.
-fn list(rt: &HostRuntime, bytes: &[u8]) {
-    let err = rt.stderr();
+// Whether Open reads the bytes; over 4,096 are refused by 10.
+fn open(bytes: &[u8]) -> Result<u32, Refusal> {
+    Refusal::Record.unless(bytes.len() <= 4096)?;
+    record::open(bytes, &mut [0; 1024], &mut [0; 1024])
+}
+
+// Prints the listing of the bytes in one write, and gives why they are refused, where they are.
+fn list<'a>(rt: &HostRuntime, bytes: &'a [u8]) -> Result<(), Fault<'a>> {
     let mut out = text::buffer();
     let length = text::listing(bytes, &mut out);
-    if rt.stdout().write_all(&out[..length]).is_err() {
-        program::say(err, b"listing: standard output can't be written\n");
-        return;
-    }
-    explain(err, bytes);
+    rt.stdout()
+        .write_all(&out[..length])
+        .map_err(|_| Fault::Output)?;
+    open(bytes).map_err(|refusal| Fault::Refused(Why { refusal, bytes }))?;
+    Ok(())
 }
 
 // Reads all of standard input, at most one byte more than a record may have, and lists it.
+fn run<'a>(rt: &HostRuntime, room: &'a mut [u8; 4097]) -> Result<(), Fault<'a>> {
+    let count = program::read_all(&mut rt.stdin(), room)?;
+    list(rt, &room[..count])
+}
+
+// Says what went wrong, where something did.
 fn main(rt: HostRuntime) {
-    let mut bytes = [0u8; 4097];
-    let input = program::read_all(&mut rt.stdin(), &mut bytes);
-    if input.failed {
-        program::say(rt.stderr(), b"listing: standard input can't be read\n");
-        return;
+    let mut room = [0; 4097];
+    if let Err(fault) = run(&rt, &mut room) {
+        let _ = eprintln!(rt; "listing: {fault}");
     }
-    let count = input.count;
-    list(&rt, &bytes[..count]);
 }

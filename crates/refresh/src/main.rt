@@ -1,17 +1,15 @@
 // Puts today's status bytes, made from the controller's log, into the record on standard input.
 #![tactic(auto)]
 
-ghost use Rattle.std.specs.Prelude.{◌≤◌, length};
-
-use program::{read_all, say, say_with};
-use record::{Opened, word_at};
+use cube::Refusal;
+use program::{Why, boards, read_all};
+use record::word_at;
 use report::Class;
-use status_log::{Refreshed, Sweep};
 use std::env::{Env, FillError};
 use std::fs::File;
-use std::io::{Stderr, Write};
+use std::io::Write;
 use std::os::fd::AsRawFd;
-use std::{io, str};
+use std::{fmt, io, str};
 
 // Room for an argument. A path of this length or more can't be opened.
 const ROOM: usize = 4096;
@@ -19,322 +17,245 @@ const ROOM: usize = 4096;
 // What std puts after the system's words for an error, before the error's number.
 const NUMBERED: &str = " (os error ";
 
-// How the reading of a log stands: the records read, those of them skipped, whether there is more to read, and whether all was read.
+// What is said on standard error in place of an answer.
+#[derive(Drop)]
+enum Fault<'a> {
+    Arguments,
+    Sweep,
+    LongName,
+    NoName,
+    Input,
+    Output,
+    Log,
+    NotOpened(&'a str, io::Error),
+    Record(Why<'a>),
+    LogRecord(LogWhy),
+}
+
+// Why a log is refused: for which reason, in which of its records, and what is wrong with that.
+#[derive(Clone, Copy)]
+struct LogWhy {
+    refusal: Refusal,
+    which: usize,
+    wrong: Wrong,
+}
+
+// What is wrong with a record of the log.
+#[derive(Clone, Copy)]
+enum Wrong {
+    // Only so many of its bytes came.
+    Short(usize),
+    // Its length and its kind, one of which is another than a status record's.
+    Kind(u16, u16),
+    // Its node, and how many boards there are.
+    Node(u16, usize),
+    // Something that is no matter of a record.
+    Other,
+}
+
+// What was read of a log: its records, and those of them skipped.
 #[derive(Clone, Copy)]
 struct Reading {
     records: usize,
     skipped: usize,
-    more: bool,
-    whole: bool,
 }
 
-// How many boards are silent, working and late. No log says that a board is down or that a slot is empty.
-#[derive(Clone, Copy)]
-struct Tally {
-    silent: usize,
-    working: usize,
-    late: usize,
-}
-
-// Two counts together, or the largest there is.
-fn both(a: usize, b: usize) -> usize {
-    if usize::MAX - a < b {
-        return usize::MAX;
-    }
-    a + b
-}
-
-// The place of the first refused record of a part, or of what is left after its last whole record.
-fn first_refused(part: &[u8], n: u32) -> usize
-    ensures { result ≤ length part.now }
-{
-    let mut at: usize = 0;
-    while 8 <= part.len() - at {
-        let end = at + 8;
-        if log_record::record_refusal(&part[at..end], n) != 0 {
-            return at;
-        }
-        at = end;
-    }
-    at
-}
-
-// Says what is wrong with a log's record that is refused by 11.
-fn malformed(err: Stderr, row: &[u8], which: u64) {
-    if row.len() < 8 {
-        say_with(
-            err,
-            b"the log ends within its record #: # of 8 bytes came\n",
-            which,
-            row.len() as u64,
-            0,
-        );
-        return;
-    }
-    say_with(
-        err,
-        b"the log's record # has length # and kind #, and a status record has 6 and 2\n",
-        which,
-        word_at(row, 0) as u64,
-        word_at(row, 2) as u64,
-    );
-}
-
-// Says why a part of a log is refused, and in which record, after so many records before the part.
-fn refused(err: Stderr, number: u32, before: usize, part: &[u8], n: u32) {
-    let at = first_refused(part, n);
-    let row = &part[at..];
-    let which = both(before, at / 8 + 1) as u64;
-    say_with(err, b"refresh: refused #: ", number as u64, 0, 0);
-    match number {
-        11 => malformed(err, row, which),
-        12 => say_with(
-            err,
-            b"the log's record # names node #, which a cabinet of # boards lacks\n",
-            which,
-            word_at(row, 6) as u64,
-            program::boards(n) as u64,
-        ),
-        _ => say(err, b"the log is refused\n"),
-    }
-}
-
-impl Reading {
-    // No more is read, and nothing comes of it.
-    fn failed() -> Reading {
-        Reading {
-            records: 0,
-            skipped: 0,
-            more: false,
-            whole: false,
-        }
-    }
-
-    // After one more part: what was answered to it, and whether it was the last.
-    fn after(self, err: Stderr, answer: Refreshed, part: &[u8], n: u32, last: bool) -> Reading {
-        match answer {
-            Refreshed::Done(skipped) => Reading {
-                records: both(self.records, part.len() / 8),
-                skipped: both(self.skipped, skipped),
-                more: !last,
-                whole: last,
-            },
-            Refreshed::Refused(number) => {
-                refused(err, number, self.records, part, n);
-                Reading::failed()
-            },
-        }
-    }
-
-    // Reads one more part of whole records, unless it is the last, and lets it speak.
-    fn part(
-        self,
-        err: Stderr,
-        log: &mut File,
-        n: u32,
-        sweep: u16,
-        status: &mut [u8],
-        room: &mut [u8],
-    ) -> Reading {
-        let input = read_all(log, room);
-        if input.failed {
-            say(err, b"refresh: the log can't be read\n");
-            return Reading::failed();
-        }
-        let count = input.count;
-        let last = count < room.len();
-        let answer = status_log::update(n, sweep, &room[..count], status);
-        self.after(err, answer, &room[..count], n, last)
-    }
-}
-
-// Reads a log to its end, 65,536 bytes at a time. The turns only bound the loop: no log uses them up.
-fn read_log(err: Stderr, log: &mut File, n: u32, sweep: u16, status: &mut [u8]) -> Reading {
-    let mut room = [0u8; 65536];
-    let mut reading = Reading {
-        records: 0,
-        skipped: 0,
-        more: true,
-        whole: false,
-    };
-    for _ in 0..u64::MAX {
-        if !reading.more {
-            return reading;
-        }
-        reading = reading.part(err, log, n, sweep, status, &mut room);
-    }
-    reading
-}
-
-impl Tally {
-    // With one board more of this class.
-    fn with(self, class: Class) -> Tally {
-        match class {
-            Class::Silent => Tally {
-                silent: both(self.silent, 1),
-                working: self.working,
-                late: self.late,
-            },
-            Class::Working => Tally {
-                silent: self.silent,
-                working: both(self.working, 1),
-                late: self.late,
-            },
-            Class::Late => Tally {
-                silent: self.silent,
-                working: self.working,
-                late: both(self.late, 1),
-            },
-            Class::Down => self,
-            Class::Empty => self,
-        }
-    }
-}
-
-// Counts the boards of each class.
-fn counted(status: &[u8]) -> Tally {
-    let mut counts = Tally {
-        silent: 0,
-        working: 0,
-        late: 0,
-    };
-    for byte in status {
-        let class = report::class_of(*byte);
-        counts = counts.with(class);
-    }
-    counts
-}
-
-// Says what was read and how the boards stand, and warns where none works.
-fn tell(err: Stderr, reading: Reading, sweep: u16, status: &[u8]) {
-    say_with(
-        err,
-        b"refresh: records read: #, of these from the future and skipped: #\n",
-        reading.records as u64,
-        reading.skipped as u64,
-        0,
-    );
-    let boards = counted(status);
-    say_with(
-        err,
-        b"refresh: boards silent: #, working: #, late: #\n",
-        boards.silent as u64,
-        boards.working as u64,
-        boards.late as u64,
-    );
-    if boards.working == 0 {
-        say_with(
-            err,
-            b"refresh: warning: no board works at sweep #; is that the present sweep?\n",
-            sweep as u64,
-            0,
-            0,
-        );
-    }
-}
-
-// Prints the record with the log's status bytes in place of its own, if all of the log was read.
-fn print(rt: &HostRuntime, reading: Reading, sweep: u16, bytes: &mut [u8], status: &[u8]) {
-    if !reading.whole {
-        return;
-    }
-    record::restate(bytes, status);
-    let err = rt.stderr();
-    if rt.stdout().write_all(bytes).is_err() {
-        say(err, b"refresh: standard output can't be written\n");
-        return;
-    }
-    tell(err, reading, sweep, status);
-}
-
-// Goes on if Open reads the record: no board is heard before the log speaks.
-fn with_record(rt: &HostRuntime, opened: Opened, log: &mut File, sweep: u16, bytes: &mut [u8]) {
-    match opened {
-        Opened::Cube(n) => {
-            let mut space = [0u8; 1024];
-            let status: &mut [u8] = &mut space[0..program::boards(n)];
-            let reading = read_log(rt.stderr(), log, n, sweep, status);
-            print(rt, reading, sweep, bytes, status);
-        },
-        Opened::Refused(number) => program::refused(rt.stderr(), b"refresh", bytes, number),
-    }
-}
-
-// Reads the record on standard input, at most one byte more than a record may have.
-fn with_log(rt: &HostRuntime, log: &mut File, sweep: u16) {
-    let err = rt.stderr();
-    let mut bytes = [0u8; 4097];
-    let input = read_all(&mut rt.stdin(), &mut bytes);
-    if input.failed {
-        say(err, b"refresh: standard input can't be read\n");
-        return;
-    }
-    let count = input.count;
-    if 4096 < count {
-        program::refused(err, b"refresh", &bytes, 10);
-        return;
-    }
-    let mut status = [0u8; 1024];
-    let mut links = [0u16; 1024];
-    let opened = record::open(&bytes[..count], &mut status, &mut links);
-    with_record(rt, opened, log, sweep, &mut bytes[..count]);
-}
-
-// Says that the log of this name can't be opened, and why.
-fn not_opened(err: Stderr, name: &[u8], why: &[u8]) {
-    say(err, b"refresh: the log ");
-    say(err, name);
-    say(err, b": ");
-    say(err, why);
-    say(err, b"\n");
-}
-
-// Says why the log can't be opened, in the system's words.
-fn by_system(err: Stderr, name: &[u8], error: io::Error) {
-    let mut room = [0u8; 128];
-    let mut free: &mut [u8] = &mut room;
+// The system's words for an error, without std's number.
+fn words<'a>(error: &io::Error, room: &'a mut [u8; 128]) -> &'a str {
+    let mut free: &mut [u8] = &mut *room;
     let _ = write!(free, "{error}");
     let left = free.len();
     let length = room.len().saturating_sub(left);
     let text = str::from_utf8(&room[..length]).unwrap_or("");
-    let words = text.split_once(NUMBERED).map_or(text, |parts| parts.0);
-    not_opened(err, name, words.as_bytes());
+    text.split_once(NUMBERED).map_or(text, |parts| parts.0)
+}
+
+impl fmt::Display for Fault<'_> {
+    fn fmt<W: fmt::Write>(&self, f: &mut fmt::Formatter<W>) -> fmt::Result {
+        match self {
+            Fault::Arguments => write!(f, "give the present sweep and the log's file name"),
+            Fault::Sweep => write!(f, "the present sweep is a number from 0 to 65535"),
+            Fault::LongName => write!(f, "the log's file name is too long"),
+            Fault::NoName => write!(f, "the log's file name is empty"),
+            Fault::Input => write!(f, "standard input can't be read"),
+            Fault::Output => write!(f, "standard output can't be written"),
+            Fault::Log => write!(f, "the log can't be read"),
+            Fault::NotOpened(path, error) => {
+                let mut room = [0; 128];
+                let why = words(error, &mut room);
+                write!(f, "the log {path}: {why}")
+            }
+            Fault::Record(why) => write!(f, "{why}"),
+            Fault::LogRecord(why) => write!(f, "{why}"),
+        }
+    }
+}
+
+impl fmt::Display for LogWhy {
+    fn fmt<W: fmt::Write>(&self, f: &mut fmt::Formatter<W>) -> fmt::Result {
+        let LogWhy {
+            refusal,
+            which,
+            wrong,
+        } = *self;
+        write!(f, "{refusal}: ")?;
+        match wrong {
+            Wrong::Short(came) => write!(
+                f,
+                "the log ends within its record {which}: {came} of 8 bytes came"
+            ),
+            Wrong::Kind(length, kind) => write!(
+                f,
+                "the log's record {which} has length {length} and kind {kind}, and a status record has 6 and 2"
+            ),
+            Wrong::Node(node, boards) => write!(
+                f,
+                "the log's record {which} names node {node}, which a cabinet of {boards} boards lacks"
+            ),
+            Wrong::Other => write!(f, "the log is refused"),
+        }
+    }
+}
+
+impl Wrong {
+    // What is wrong with a record that is refused.
+    fn with(row: &[u8], refusal: Refusal, n: u32) -> Wrong {
+        match refusal {
+            Refusal::LogRecord if row.len() < 8 => Wrong::Short(row.len()),
+            Refusal::LogRecord => Wrong::Kind(word_at(row, 0), word_at(row, 2)),
+            Refusal::LogNode => Wrong::Node(word_at(row, 6), boards(n)),
+            _ => Wrong::Other,
+        }
+    }
+}
+
+impl LogWhy {
+    // Why a part of a log is refused, after so many records before the part: its first refused record tells.
+    fn of(refusal: Refusal, before: usize, part: &[u8], n: u32) -> LogWhy {
+        let at = part
+            .chunks(8)
+            .position(|row| log_record::check(row, n).is_err())
+            .unwrap_or(part.len() / 8);
+        let row = part.chunks(8).nth(at).unwrap_or(&[]);
+        LogWhy {
+            refusal,
+            which: before.saturating_add(at).saturating_add(1),
+            wrong: Wrong::with(row, refusal, n),
+        }
+    }
+}
+
+impl Reading {
+    // After one more part of whole records, unless it is the last.
+    fn after(self, part: &[u8], skipped: usize) -> Reading {
+        Reading {
+            records: self.records.saturating_add(part.len() / 8),
+            skipped: self.skipped.saturating_add(skipped),
+        }
+    }
+}
+
+// What the arguments ask: the log, opened, and the present sweep.
+#[derive(Drop)]
+struct Asked {
+    log: File,
+    sweep: u16,
+}
+
+impl Asked {
+    // Reads the log to its end, 65,536 bytes at a time, and lets it speak. The turns only bound the loop: no log uses them up.
+    fn read<'a>(&mut self, n: u32, status: &mut [u8]) -> Result<Reading, Fault<'a>> {
+        let mut room = [0; 65536];
+        let mut reading = Reading {
+            records: 0,
+            skipped: 0,
+        };
+        for _ in 0..u64::MAX {
+            let count = read_all(&mut self.log, &mut room).map_err(|_| Fault::Log)?;
+            let part = &room[..count];
+            let skipped = status_log::update(n, self.sweep, part, status).map_err(|refusal| {
+                Fault::LogRecord(LogWhy::of(refusal, reading.records, part, n))
+            })?;
+            reading = reading.after(part, skipped);
+            if count < room.len() {
+                return Ok(reading);
+            }
+        }
+        Err(Fault::Log)
+    }
+}
+
+// How many boards are of a class.
+fn count(status: &[u8], class: Class) -> usize {
+    status
+        .iter()
+        .filter(|byte| Class::from(**byte) == class)
+        .count()
+}
+
+// Says what was read and how the boards stand, and warns where none works. No log says that a board is down or that a slot is empty.
+fn tell(rt: &HostRuntime, reading: Reading, sweep: u16, status: &[u8]) {
+    let Reading { records, skipped } = reading;
+    let _ = eprintln!(rt;
+        "refresh: records read: {records}, of these from the future and skipped: {skipped}"
+    );
+    let silent = count(status, Class::Silent);
+    let working = count(status, Class::Working);
+    let late = count(status, Class::Late);
+    let _ = eprintln!(rt; "refresh: boards silent: {silent}, working: {working}, late: {late}");
+    if working == 0 {
+        let _ = eprintln!(rt;
+            "refresh: warning: no board works at sweep {sweep}; is that the present sweep?"
+        );
+    }
+}
+
+// The dimension of the record, if Open reads it; over 4,096 bytes are refused by 10.
+fn open(bytes: &[u8]) -> Result<u32, Refusal> {
+    Refusal::Record.unless(bytes.len() <= 4096)?;
+    record::open(bytes, &mut [0; 1024], &mut [0; 1024])
+}
+
+// Prints the record with the log's status bytes in place of its own. No board is heard before the log speaks.
+fn refresh<'a>(rt: &HostRuntime, asked: &mut Asked, bytes: &'a mut [u8]) -> Result<(), Fault<'a>> {
+    let n = match open(bytes) {
+        Ok(n) => n,
+        Err(refusal) => return Err(Fault::Record(Why { refusal, bytes })),
+    };
+    let mut space = [0; 1024];
+    let status = &mut space[..boards(n)];
+    let reading = asked.read(n, status)?;
+    record::restate(bytes, status);
+    rt.stdout().write_all(bytes).map_err(|_| Fault::Output)?;
+    tell(rt, reading, asked.sweep, status);
+    Ok(())
+}
+
+// Reads the record on standard input, at most one byte more than a record may have, and refreshes it.
+fn with_log<'a>(
+    rt: &HostRuntime,
+    mut asked: Asked,
+    room: &'a mut [u8; 4097],
+) -> Result<(), Fault<'a>> {
+    let count = read_all(&mut rt.stdin(), room).map_err(|_| Fault::Input)?;
+    refresh(rt, &mut asked, &mut room[..count])
 }
 
 // Opens the log of this name. Where standard input is closed, the log gets its number.
-fn with_name(rt: &HostRuntime, name: &[u8], sweep: u16) {
-    let err = rt.stderr();
-    let Ok(path) = str::from_utf8(name) else {
-        return not_opened(err, name, b"its name is not UTF-8");
-    };
+fn open_log<'a>(rt: &HostRuntime, path: &'a str) -> Result<File, Fault<'a>> {
     match File::open(rt, path) {
-        Err(error) => by_system(err, name, error),
-        Ok(log) if log.as_raw_fd() == rt.stdin().as_raw_fd() => {
-            say(err, b"refresh: standard input can't be read\n");
-        },
-        Ok(mut log) => with_log(rt, &mut log, sweep),
+        Err(error) => Err(Fault::NotOpened(path, error)),
+        Ok(log) if log.as_raw_fd() == rt.stdin().as_raw_fd() => Err(Fault::Input),
+        Ok(log) => Ok(log),
     }
 }
 
 // Takes the log's file name from the second argument.
-fn with_sweep(rt: &HostRuntime, sweep: u16) {
-    let err = rt.stderr();
-    let mut name = [0u8; ROOM];
-    match rt.arg(2, &mut name) {
-        Err(_) => say(err, b"refresh: the log's file name is too long\n"),
-        Ok(0) => say(err, b"refresh: the log's file name is empty\n"),
-        Ok(length) => with_name(rt, &name[..length], sweep),
-    }
-}
-
-// Goes on if the first argument names a sweep.
-fn by_sweep(rt: &HostRuntime, sweep: Sweep) {
-    match sweep {
-        Sweep::Number(number) => with_sweep(rt, number),
-        Sweep::NoNumber => say(
-            rt.stderr(),
-            b"refresh: the present sweep is a number from 0 to 65535\n",
-        ),
+fn name<'a>(rt: &HostRuntime, room: &'a mut [u8; ROOM]) -> Result<&'a [u8], Fault<'a>> {
+    match rt.arg(2, room) {
+        Err(_) => Err(Fault::LongName),
+        Ok(0) => Err(Fault::NoName),
+        Ok(length) => Ok(&room[..length]),
     }
 }
 
@@ -343,16 +264,48 @@ fn is_given(rt: &HostRuntime, number: usize) -> bool {
     !matches!(rt.arg(number, &mut []), Err(FillError::NotPresent))
 }
 
-// Takes the present sweep and the log's file name.
-fn main(rt: HostRuntime) {
-    if !is_given(&rt, 2) || is_given(&rt, 3) {
-        say(
-            rt.stderr(),
-            b"refresh: give the present sweep and the log's file name\n",
-        );
-        return;
+// Takes the present sweep from the first of two arguments.
+fn sweep<'a>(rt: &HostRuntime) -> Result<u16, Fault<'a>> {
+    if !is_given(rt, 2) || is_given(rt, 3) {
+        return Err(Fault::Arguments);
     }
-    let mut text = [0u8; ROOM];
+    let mut text = [0; ROOM];
     let length = rt.arg(1, &mut text).unwrap_or(0);
-    by_sweep(&rt, status_log::sweep_of(&text[..length]));
+    status_log::sweep_of(&text[..length]).ok_or(Fault::Sweep)
+}
+
+// Says of a name that is no text, as the bytes that it is, that the log can't be opened.
+fn not_text(rt: &HostRuntime, name: &[u8]) {
+    let _ = eprint!(rt; "refresh: the log ");
+    let _ = rt.stderr().write_all(name);
+    let _ = eprintln!(rt; ": its name is not UTF-8");
+}
+
+// Does what the arguments ask.
+fn run<'a>(
+    rt: &HostRuntime,
+    room: &'a mut [u8; ROOM],
+    bytes: &'a mut [u8; 4097],
+) -> Result<(), Fault<'a>> {
+    let sweep = sweep(rt)?;
+    let name = name(rt, room)?;
+    match str::from_utf8(name) {
+        Ok(path) => {
+            let log = open_log(rt, path)?;
+            with_log(rt, Asked { log, sweep }, bytes)
+        }
+        Err(_) => {
+            not_text(rt, name);
+            Ok(())
+        }
+    }
+}
+
+// Says what went wrong, where something did.
+fn main(rt: HostRuntime) {
+    let mut room = [0; ROOM];
+    let mut bytes = [0; 4097];
+    if let Err(fault) = run(&rt, &mut room, &mut bytes) {
+        let _ = eprintln!(rt; "refresh: {fault}");
+    }
 }

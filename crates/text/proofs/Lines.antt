@@ -15,8 +15,7 @@ use Rattle.cube.specs.Reply.{accepted, refusal}
 use Rattle.cube.proofs.Reply.{kept_none}
 use Rattle.cube.proofs.Table.{length_table}
 use Rattle.report.specs.Class.{class_of}
-use Rattle.report.specs.Health.{Cube}
-use Rattle.report.specs.Report.{report, cube, dimension, sized, all_sized}
+use Rattle.report.specs.Report.{Report, cube, dimension, sized, all_sized}
 use Rattle.report.specs.declared.Class.{Class}
 use Rattle.report.specs.declared.Class.TheVariants.{Silent, Working, Late, Down, Empty}
 use Rattle.safety.specs.Safety.{bits_of, vector, vectors}
@@ -24,10 +23,11 @@ use Rattle.vectors.specs.Fill.{fill_refusal, filled}
 use Rattle.held.specs.Held.{own}
 use Rattle.held.proofs.Held.{own_safe}
 use Rattle.lines.specs.Text.{spell, titled, joined}
-use Rattle.lines.specs.Put.{Put}
-use Rattle.lines.proofs.Placing.{put_then}
+use Rattle.lines.specs.Put.{Puts}
+use Rattle.lines.specs.declared.Page.{Page}
+use Rattle.lines.proofs.Placing.{puts_then}
 use Rattle.lines.proofs.Text.{length_decimal, length_titled, joined_cong}
-use Rattle.text.specs.Fit.{held_bits, Placed, listed_of}
+use Rattle.text.specs.Fit.{held_bits, Fits}
 use Rattle.text.specs.Listing.{spaced, row, line, line_of, cube_text, listed}
 
 -- ---- rows of bits
@@ -38,12 +38,11 @@ length_row p zero = refl
 length_row p (suc n) = length-append (row p n) ((48 + one (p (suc n))) ∷ []) ∙ ap (λ (j : ℕ). j + 1) (length_row p n) ∙ add-one n
 
 -- one bit more is put
-pub row_put : (p : ℕ → Bool) (k : ℕ) {v at next₁ next₂ : ℕ} {old new₁ new₂ : List ℕ} → v ≡ one (p (k + 1)) → Put (row p k) at old new₁ next₁
-    → Put ((48 + v) ∷ []) next₁ new₁ new₂ next₂ → Put (row p (k + 1)) at old new₂ next₂
+pub row_put : (p : ℕ → Bool) (k : ℕ) {v : ℕ} {old mid new : Page} → v ≡ one (p (k + 1)) → Puts (row p k) old mid → Puts ((48 + v) ∷ []) mid new → Puts (row p (k + 1)) old new
 unfolding row
 row_put p k {v} e done q =
     let bit : v ≡ one (p (suc k)) = rw add-one at e in
-    rw (add-one, ← bit) (put_then done q)
+    rw (add-one, ← bit) (puts_then done q)
 
 -- rows of equal bits
 row_cong : (p q : ℕ → Bool) (n : ℕ) → ((k : ℕ) → k < n → p (suc k) ≡ q (suc k)) → row p n ≡ row q n
@@ -74,46 +73,40 @@ length_header n h = length_titled (spell "cube") n 1 (omega arith)
 pub nodes_of : (n : ℕ) → n ≤ 10 → 1 * 2 ^ n % 18446744073709551616 ≡ 2 ^ n
 nodes_of n h = rw one-mul (mod-eq_of_lt (pow-lt {i = n} {j = 64} (omega arith)))
 
-module _ (n : ℕ) (status links vs : List ℕ) where
-  -- the report at the start of the slices, as the mathematics sees it
-  abbrev C : Cube
-  C = cube (report n (take (2 ^ n) status) (take (2 ^ n) links))
-
-  -- Fill accepts it, the vectors having room
-  report_fills : Placed n status links → 2 ^ n ≤ length vs
-      → fill_refusal (report n (take (2 ^ n) status) (take (2 ^ n) links)) (take (2 ^ n) vs) ≡ 0
+module _ (R : Report) (fits : Fits R) (vs : List ℕ) where
+  -- Fill accepts the report, the vectors having room
+  report_fills : 2 ^ R.dim ≤ length vs → fill_refusal R (take (2 ^ R.dim) vs) ≡ 0
   unfolding fill_refusal refusal dimension sized all_sized
-  report_fills r h =
+  report_fills h =
       rw (
-        le-leb 1 n r.low,
-        le-leb n 10 r.high,
-        eq-eqb (length (take (2 ^ n) status)) (2 ^ n) (length-take-le (2 ^ n) status r.status_room),
-        eq-eqb (length (take (2 ^ n) links)) (2 ^ n) (length-take-le (2 ^ n) links r.links_room),
-        eq-eqb (length (take (2 ^ n) vs)) (2 ^ n) (length-take-le (2 ^ n) vs h),
-        r.narrow_links,
+        le-leb 1 R.dim fits.low,
+        le-leb R.dim 10 fits.high,
+        eq-eqb (length R.status) (2 ^ R.dim) fits.status_size,
+        eq-eqb (length R.links) (2 ^ R.dim) fits.links_size,
+        eq-eqb (length (take (2 ^ R.dim) vs)) (2 ^ R.dim) (length-take-le (2 ^ R.dim) vs h),
+        fits.narrow_links,
       )
 
   -- what Fill leaves at the start of its room
-  pub filled_first : (k : ℕ) (new : List ℕ) → k ≡ 2 ^ n → Placed n status links → 2 ^ n ≤ length vs
-      → new ≡ filled (report n (take k status) (take k links)) (take k vs)
-      → (length vs ≡ length (new ++ drop k vs)) × (take (2 ^ n) (new ++ drop k vs) ≡ vectors C)
+  pub filled_first : (k : ℕ) (new : List ℕ) → k ≡ 2 ^ R.dim → 2 ^ R.dim ≤ length vs → new ≡ filled R (take k vs)
+      → (length vs ≡ length (new ++ drop k vs)) × (take (2 ^ R.dim) (new ++ drop k vs) ≡ vectors (cube R))
   unfolding filled vectors cube
-  filled_first k new e r h f =
-      let full : new ≡ vectors C = rw e at f ∙ kept_none _ _ _ (report_fills r h) in
-      let size : length new ≡ 2 ^ n = ap length full ∙ length_table (vector C) (2 ^ n) in (
+  filled_first k new e h f =
+      let full : new ≡ vectors (cube R) = rw e at f ∙ kept_none _ _ _ (report_fills h) in
+      let size : length new ≡ 2 ^ R.dim = ap length full ∙ length_table (vector (cube R)) (2 ^ R.dim) in (
         omega (arith, length-append new (drop k vs), length-drop k vs),
-        take_at new (drop k vs) (2 ^ n) size ∙ full,
+        take_at new (drop k vs) (2 ^ R.dim) size ∙ full,
       )
 
-  module _ (full : take (2 ^ n) vs ≡ vectors C) where
+  module _ (full : take (2 ^ R.dim) vs ≡ vectors (cube R)) where
     -- over Fill's vectors the boards hold the bits of Definition 1
-    filled_line : (a : ℕ) → a < 2 ^ n → line_of n status (held_bits vs) a ≡ line_of n (take (2 ^ n) status) (bits_of C) a
+    filled_line : (a : ℕ) → a < 2 ^ R.dim → line_of R.dim R.status (held_bits vs) a ≡ line_of R.dim R.status (bits_of (cube R)) a
     unfolding line_of line held_bits bits_of own cube
     filled_line a h =
-        let word : get_or vs a 0 ≡ get_or (vectors C) a 0 = sym (get_or-take (2 ^ n) vs a 0 h) ∙ ap (λ (l : List ℕ). get_or l a 0) full in
-        rw (get_or-take (2 ^ n) status a 0 h, row_cong (held_bits vs a) (bits_of C a) n (λ k l. rw word (own_safe C (suc k) a (omega arith) h)))
+        let word : get_or vs a 0 ≡ get_or (vectors (cube R)) a 0 = sym (get_or-take (2 ^ R.dim) vs a 0 h) ∙ ap (λ (l : List ℕ). get_or l a 0) full in
+        rw (row_cong (held_bits vs a) (bits_of (cube R) a) R.dim (λ k l. rw word (own_safe (cube R) (suc k) a (omega arith) h)))
 
     -- the header and the lines over Fill's vectors are the text of the cube
-    pub cube_listed : titled (spell "cube") n ++ joined (line_of n status (held_bits vs)) (2 ^ n) ≡ listed_of (accepted n) status links
+    pub cube_listed : titled (spell "cube") R.dim ++ joined (line_of R.dim R.status (held_bits vs)) (2 ^ R.dim) ≡ listed (accepted R.dim) R.status R.links
     unfolding listed cube_text
-    cube_listed = rw (joined_cong (line_of n status (held_bits vs)) (line_of n (take (2 ^ n) status) (bits_of C)) (2 ^ n) filled_line)
+    cube_listed = rw (joined_cong (line_of R.dim R.status (held_bits vs)) (line_of R.dim R.status (bits_of (cube R))) (2 ^ R.dim) filled_line)

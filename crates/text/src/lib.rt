@@ -3,19 +3,17 @@
 
 ghost use Rattle.std.specs.Prelude.{◌≡◌, ◌++◌, ◌^◌, ◌≤◌, length, take, drop, replicate};
 ghost use Rattle.cube.specs.Reply.{accepted};
-ghost use Rattle.report.specs.Report.{report, cube};
+ghost use Rattle.report.specs.Report.{reported, cube};
 ghost use Rattle.safety.specs.Safety.{vectors};
-ghost use Rattle.record.specs.Open.{said};
 ghost use Rattle.io.specs.Counts.{IsPrefixLen};
 ghost use Rattle.lines.specs.Text.{joined};
-ghost use Rattle.lines.specs.Put.{Put};
+ghost use Rattle.lines.specs.Put.{Puts};
 ghost use Rattle.text.specs.Listing as spec;
-ghost use Rattle.text.specs.Fit.{held_bits, Fit, listed_of};
+ghost use Rattle.text.specs.Fit.{held_bits, Fits, Answers};
 
-use cube::Node;
-use lines::{put, put_byte, put_number, put_titled};
-use record::Opened;
-use report::Class;
+use cube::{Node, Refusal};
+use lines::Page;
+use report::{Class, Report};
 
 // The bytes of the longest listing: the header and 1,024 lines.
 pub const LONGEST: usize = 24584;
@@ -27,99 +25,50 @@ pub fn buffer() -> [u8; LONGEST]
     [0; LONGEST]
 }
 
-// The name of a class between two spaces, with its size.
-#[derive(Clone, Copy)]
-struct Name {
-    bytes: [u8; 9],
-    size: usize,
-}
-
 // The name of a class between two spaces.
-fn name_of(class: Class) -> Name
-    ensures count { IsPrefixLen result.size result.bytes }
-    ensures text { take result.size result.bytes ≡ spec.spaced class }
+fn name_of(class: Class) -> &'static str
+    ensures { result.now ≡ spec.spaced class }
 {
     match class {
-        Class::Silent => Name {
-            bytes: *b" silent  ",
-            size: 8,
-        },
-        Class::Working => Name {
-            bytes: *b" working ",
-            size: 9,
-        },
-        Class::Late => Name {
-            bytes: *b" late    ",
-            size: 6,
-        },
-        Class::Down => Name {
-            bytes: *b" down    ",
-            size: 6,
-        },
-        Class::Empty => Name {
-            bytes: *b" empty   ",
-            size: 7,
-        },
+        Class::Silent => " silent ",
+        Class::Working => " working ",
+        Class::Late => " late ",
+        Class::Down => " down ",
+        Class::Empty => " empty ",
     }
-}
-
-// Puts the name of a class between two spaces.
-fn put_class(out: &mut [u8], at: usize, class: Class) -> usize
-    ensures { Put (spec.spaced class) at out.old out.new result }
-{
-    let name = name_of(class);
-    let bytes = name.bytes;
-    let size = name.size;
-    put(out, at, &bytes[..size])
 }
 
 // Puts the own bits 1 to n of a node as one row of digits.
-fn put_bits(out: &mut [u8], at: usize, n: u32, vectors: &[u16], a: Node) -> usize
+fn put_bits(page: &mut Page, n: u32, vectors: &[u16], a: Node)
     ensures { let bits = held_bits vectors.now a.0 in
-        Put (spec.row bits n) at out.old out.new result }
+        Puts (spec.row bits n) page.old page.new }
 {
-    let mut end = at;
-    let mut k: u32 = 0;
-    while k < n {
-        let bit = held::own(vectors, a, k + 1);
-        end = put_byte(out, end, b'0' + bit as u8);
-        k += 1;
+    for k in 0..n {
+        page.put_byte(b'0' + u8::from(held::own(vectors, a, k + 1)));
     }
-    end
 }
 
 // Puts the line of a node of this class: its number, its class and its bits.
-fn put_line(out: &mut [u8], at: usize, n: u32, class: Class, vectors: &[u16], a: Node) -> usize
+fn put_line(page: &mut Page, n: u32, class: Class, vectors: &[u16], a: Node)
     ensures { let line = spec.line n class (held_bits vectors.now a.0) a.0 in
-        Put line at out.old out.new result }
+        Puts line page.old page.new }
 {
-    let numbered = put_number(out, at, a.0 as u64);
-    let classed = put_class(out, numbered, class);
-    let ended = put_bits(out, classed, n, vectors, a);
-    put_byte(out, ended, b'\n')
+    page.put_number(a.0 as u64);
+    page.put(name_of(class).as_bytes());
+    put_bits(page, n, vectors, a);
+    page.put_byte(b'\n');
 }
 
-// Puts the lines of the first nodes.
-fn put_lines(
-    out: &mut [u8],
-    at: usize,
-    n: u32,
-    nodes: usize,
-    status: &[u8],
-    vectors: &[u16],
-) -> usize
-    requires { (nodes ≤ 1024) × (nodes ≤ length status.now) }
-    ensures { let lines = joined (spec.line_of n status.now (held_bits vectors.now)) nodes in
-        Put lines at out.old out.new result }
+// Puts the lines of all nodes.
+fn put_lines(page: &mut Page, report: &Report, vectors: &[u16])
+    requires { length report.now.status.now ≤ 1024 }
+    ensures { let R = reported report.now in
+        let lines = joined (spec.line_of R.dim R.status (held_bits vectors.now)) (length R.status) in
+        Puts lines page.old page.new }
 {
-    let mut end = at;
-    let mut a: usize = 0;
-    while a < nodes {
-        let class = report::class_of(status[a]);
-        end = put_line(out, end, n, class, vectors, Node(a as u16));
-        a += 1;
+    for (a, byte) in report.status.iter().enumerate() {
+        put_line(page, report.n, Class::from(*byte), vectors, Node(a as u16));
     }
-    end
 }
 
 // Room for the vectors of the largest cube.
@@ -129,45 +78,47 @@ fn room() -> [u16; 1024]
     [0; 1024]
 }
 
-// The vectors of an accepted report of dimension n, which stands at the start of the slices.
-fn vectors_of(n: u32, status: &[u8], links: &[u16]) -> [u16; 1024]
-    requires { Fit (accepted n) status.now links.now }
+// The vectors of an accepted report, in the first places.
+fn vectors_of(report: &Report) -> [u16; 1024]
+    requires { Fits (reported report.now) }
     ensures long { 1024 ≡ length result }
-    ensures words { let R = report n (take (2 ^ n) status.now) (take (2 ^ n) links.now) in
-        take (2 ^ n) result ≡ vectors (cube R) }
+    ensures words { let nodes = 2 ^ report.now.n in
+        take nodes result ≡ vectors (cube (reported report.now)) }
 {
-    let nodes: usize = 1 << n;
     let mut vectors = room();
-    vectors::fill(
-        n,
-        &status[0..nodes],
-        &links[0..nodes],
-        &mut vectors[0..nodes],
-    );
+    let nodes = report.status.len();
+    let _ = vectors::fill(report, &mut vectors[..nodes]);
     vectors
 }
 
-// Puts the listing of an accepted report of dimension n, which stands at the start of the slices.
-fn put_cube(out: &mut [u8], n: u32, status: &[u8], links: &[u16]) -> usize
-    requires { Fit (accepted n) status.now links.now }
-    ensures { let text = listed_of (accepted n) status.now links.now in
-        Put text 0 out.old out.new result }
+// Puts the listing of an accepted report.
+fn put_cube(page: &mut Page, report: &Report)
+    requires { Fits (reported report.now) }
+    ensures { let R = reported report.now in
+        Puts (spec.listed (accepted R.dim) R.status R.links) page.old page.new }
 {
-    let vectors = vectors_of(n, status, links);
-    let titled = put_titled(out, 0, b"cube", n as u64);
-    put_lines(out, titled, n, 1 << n, status, &vectors)
+    let vectors = vectors_of(report);
+    page.put_titled("cube", report.n as u64);
+    put_lines(page, report, &vectors);
 }
 
-// Puts the listing of what Open answered, the report standing at the start of the slices.
-fn put_opened(out: &mut [u8], opened: Opened, status: &[u8], links: &[u16]) -> usize
-    requires { Fit (said opened) status.now links.now }
-    ensures { let text = listed_of (said opened) status.now links.now in
-        Put text 0 out.old out.new result }
+// What Open reads of all of standard input; over 4,096 bytes are refused by 10.
+fn opened<'a>(
+    bytes: &[u8],
+    status: &'a mut [u8; 1024],
+    links: &'a mut [u16; 1024],
+) -> Result<Report<'a>, Refusal>
+    requires { (status.old ≡ replicate 1024 0) × (links.old ≡ replicate 1024 0) }
+    ensures { Answers bytes.now result }
 {
-    match opened {
-        Opened::Cube(n) => put_cube(out, n, status, links),
-        Opened::Refused(number) => put_titled(out, 0, b"refused", number as u64),
-    }
+    Refusal::Record.unless(bytes.len() <= 4096)?;
+    let n = record::open(bytes, status, links)?;
+    let nodes = 1 << n;
+    Ok(Report {
+        n,
+        status: &status[..nodes],
+        links: &links[..nodes],
+    })
 }
 
 // Puts the listing of all of standard input at the start of the buffer, and gives its length.
@@ -176,11 +127,12 @@ pub fn listing(bytes: &[u8], out: &mut [u8; LONGEST]) -> usize
     ensures length { result ≡ length (spec.listing bytes.now) }
     ensures text { out.new ≡ spec.listing bytes.now ++ drop result out.old }
 {
-    if 4096 < bytes.len() {
-        return put_titled(out, 0, b"refused", 10);
+    let mut page = Page::new(out);
+    let mut status = [0; 1024];
+    let mut links = [0; 1024];
+    match opened(bytes, &mut status, &mut links) {
+        Ok(report) => put_cube(&mut page, &report),
+        Err(refusal) => page.put_titled("refused", u32::from(refusal) as u64),
     }
-    let mut status = [0u8; 1024];
-    let mut links = [0u16; 1024];
-    let opened = record::open(bytes, &mut status, &mut links);
-    put_opened(out, opened, &status, &links)
+    page.at
 }

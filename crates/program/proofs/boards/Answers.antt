@@ -1,14 +1,18 @@
--- `program::boards` meets its contract: below 10 no bit is shifted out.
+-- `program::boards` meets its contract: up to 10 no bit is shifted out.
 use mathlib.Core.Path.{◌≡◌}
-use Prim.Native.Nat.{◌*◌, ◌%◌, ◌^◌, min}
+use Prim.Native.Nat.{ℕ, ◌*◌, ◌%◌, ◌^◌, ◌≤◌}
 use native.Mathlib.Nat.{one-mul, mod-eq_of_lt}
 use native.Mathlib.Omega.{arith}
 use lib.Pow.{pow-lt, pow_mono}
 use Rattle.program.proofs.boards.Goals as goal
 
-pub returns-else-n-gt9 : goal.returns-else-n-gt9
-returns-else-n-gt9 c =
-    let n = c.args.n in
-    let shifted : 1 * 2 ^ n % 18446744073709551616 ≡ 2 ^ n = rw one-mul (mod-eq_of_lt (pow-lt {i = n} {j = 64} (omega arith))) in
-    let e : min n 10 ≡ n = omega arith in
-    record { few = omega (arith, pow_mono {i = n} {j = 10} (omega arith)); power = rw e shifted }
+shifted : (n : ℕ) → n ≤ 10 → 1 * 2 ^ n % 18446744073709551616 ≡ 2 ^ n
+shifted n h = rw one-mul (mod-eq_of_lt (pow-lt {i = n} {j = 64} (omega arith)))
+
+pub returns-clause-few : goal.returns-clause-few
+returns-clause-few c =
+    let n = c.min.result in
+    omega (arith, c.min.ensures, shifted n (omega (arith, c.min.ensures)), pow_mono {i = n} {j = 10} (omega (arith, c.min.ensures)))
+
+pub returns-clause-power : goal.returns-clause-power
+returns-clause-power c = rw (← c.min.ensures) (shifted c.min.result (omega (arith, c.min.ensures)))

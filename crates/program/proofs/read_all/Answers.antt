@@ -15,9 +15,9 @@ front_grown a k n xs ys within fits =
     let rest : take n (drop a all) ≡ take n ys = ap (take n) (drop_at (take a xs) (ys ++ after) a (length-take-le a xs within)) ∙ take-append-le n ys after fits in
     take-add a n all ∙ ap (λ l. l ++ take n (drop a all)) front ∙ ap (λ l. take a xs ++ l) rest
 
-pub loop-at-preserved : goal.loop-at-preserved
-loop-at-preserved g c =
+pub loop-count-preserved : goal.loop-count-preserved
+loop-count-preserved g c =
     let read = c.in-Ok.ensures in
-    let before = c.loop-at.invariant in
-    let grown = front_grown c.loop-at.at _ c.in-Ok.more c.loop-at.room c.read.new.buf before.0 read.bound.0 in
+    let before = c.loop-count.invariant in
+    let grown = front_grown c.loop-count.count _ c.in-Ok.more c.loop-count.room c.read.new.buf before.0 read.bound.0 in
     (search rules, subst (Consumes _ _) (sym grown) (Consumes-trans _ _ _ _ _ before.1 read.bytes.0))
