@@ -20,15 +20,6 @@ pub one_le : (b : Bool) → one b ≤ 1
 one_le true = omega arith
 one_le false = omega arith
 
--- a bit by its number
-pub one_true : (b : Bool) (x : ℕ) → x ≡ one b → x ≡ 1 → b ≡ true
-one_true true x e h = refl
-one_true false x e h = absurd (omega arith)
-
-pub one_false : (b : Bool) (x : ℕ) → x ≡ one b → (x ≡ 1 → ⊥) → b ≡ false
-one_false true x e h = absurd (h e)
-one_false false x e h = refl
-
 -- a digit by whether it is 1
 pub one_eqb : (d : ℕ) → d < 2 → one (eqb d 1) ≡ d
 one_eqb zero h = refl
@@ -83,9 +74,6 @@ pack_cong p q (suc n) h = ap₂ (λ (x : ℕ) (b : Bool). x + one b * 2 ^ n) (pa
 abbrev pub PackedTo : (ℕ → Bool) → ℕ → ℕ → ℕ → Type 0
 PackedTo p n i mask = pack p n ≡ pack p i + mask * 2 ^ i
 
-pub packed_none : (p : ℕ → Bool) (n : ℕ) → PackedTo p n n 0
-packed_none p n = omega (arith, zero-mul (2 ^ n))
-
 -- one dimension more
 pub packed_more : (p : ℕ → Bool) (n i mask x : ℕ) → 0 < i → PackedTo p n i mask → x ≡ one (p (suc (i - 1))) → PackedTo p n (i - 1) (mask * 2 + x)
 unfolding pack
@@ -95,10 +83,6 @@ packed_more p n (suc i) mask x h e d =
     let digit : pack p (suc i) ≡ pack p i + x * 2 ^ i = ap (λ (y : ℕ). pack p i + y * 2 ^ i) (sym (rw j at d)) in
     let twice : mask * 2 ^ suc i ≡ mask * (2 * 2 ^ i) = ap (λ (y : ℕ). mask * y) (let t : 2 ^ suc i ≡ 2 * 2 ^ i = omega arith in t) in
     rw (j, add-mul (mask * 2) x (2 ^ i), mul_assoc mask 2 (2 ^ i)) (omega (arith, e, digit, twice))
-
--- it is no more than the word
-pub packed_small : (p : ℕ → Bool) (n i mask : ℕ) → n ≤ 10 → PackedTo p n i mask → mask < 1024
-packed_small p n i mask h e = omega (arith, pack_lt p n, le-mul_of_pos_right mask (pow_pos i), pow_mono {i = n} {j = 10} h)
 
 pub packed_all : (p : ℕ → Bool) (n mask : ℕ) → PackedTo p n 0 mask → mask ≡ pack p n
 unfolding pack
@@ -214,12 +198,6 @@ count_le p (suc n) = omega (arith, count_le p n, one_le (p (suc n)))
 pub count_more : (p : ℕ → Bool) (i s x : ℕ) → s ≡ count p i → x ≡ one (p (suc i)) → s + x ≡ count p (i + 1)
 unfolding count
 count_more p i s x e d = rw add-one (ap₂ ◌+◌ e d)
-
--- five dimensions more, written out
-pub count_five : (p : ℕ → Bool) (i : ℕ)
-    → count p i + (one (p (suc i)) + one (p (suc (i + 1))) + one (p (suc (i + 2))) + one (p (suc (i + 3))) + one (p (suc (i + 4)))) ≡ count p (i + 5)
-unfolding count
-count_five p i = rw (add-one, add-two, add-three, add-four, add_five) (omega arith)
 
 one_not : (b : Bool) → one b + one (not b) ≡ 1
 one_not true = refl

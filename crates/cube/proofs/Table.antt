@@ -43,15 +43,6 @@ table_suc : (f : ℕ → ℕ) (k : ℕ) → table f (suc k) ≡ table f k ++ (f 
 unfolding table
 table_suc f k = from_suc f 0 k ∙ ap (λ (i : ℕ). from f 0 k ++ (f i ∷ [])) (zero-add k)
 
--- a part of a list is the table of its entries
-pub table_part : (xs : List ℕ) (f : ℕ → ℕ) (at k : ℕ) → at + k ≤ length xs → ((i : ℕ) → f i ≡ get_or xs (at + i) 0) → table f k ≡ take k (drop at xs)
-table_part xs f at k h same =
-    ext_get_or 0 (table f k) (take k (drop at xs))
-    (length_table f k ∙ sym (length-take-le k (drop at xs) (rw length-drop (omega arith))))
-    (λ i l.
-    let h : i < k = omega (arith, length_table f k) in
-    get_or_table f k i h ∙ same i ∙ sym (get_or-take k (drop at xs) i 0 h ∙ get_or-drop at xs i 0))
-
 -- a list after its first k places took the table's entries
 abbrev pub written : (ℕ → ℕ) → List ℕ → ℕ → List ℕ
 written f xs k = table f k ++ drop k xs
@@ -59,9 +50,6 @@ written f xs k = table f k ++ drop k xs
 pub written_none : (f : ℕ → ℕ) (xs : List ℕ) → xs ≡ written f xs 0
 unfolding table from
 written_none f xs = refl
-
-pub length_written : (f : ℕ → ℕ) (xs ys : List ℕ) (k : ℕ) → k ≤ length xs → ys ≡ written f xs k → length ys ≡ length xs
-length_written f xs ys k h e = ap length e ∙ simp (length-append, length_table, length-drop) (omega arith)
 
 -- after the next store
 pub written_next : (f : ℕ → ℕ) (xs ys : List ℕ) (k v : ℕ) → k < length xs → ys ≡ written f xs k → v ≡ f k → set ys k v ≡ written f xs (k + 1)

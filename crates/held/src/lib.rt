@@ -1,10 +1,10 @@
 // What the boards hold: the bits read off lent vectors, which may be wrong, and the links that count as faulty.
 #![tactic(auto)]
 
-ghost use Rattle.std.specs.Prelude.{◌≡◌, ℕ, suc, ◌%◌, ◌^◌, ◌≤◌, ◌<◌, Bool, ◌&&◌, cond, eqb, leb, length};
+ghost use Rattle.std.specs.Prelude.{◌≡◌, ℕ, suc, ◌%◌, ◌^◌, ◌≤◌, ◌<◌, Bool, cond, length};
 ghost use Rattle.cube.specs.Bits.{flip};
 ghost use Rattle.cube.specs.Count.{one, pack};
-ghost use Rattle.report.specs.Report.{cut, within};
+ghost use Rattle.report.specs.Report.{cut};
 ghost use Rattle.safety.specs.Safety.{registered};
 ghost use Rattle.held.specs.Held.{held, own, fits, heard};
 

@@ -9,7 +9,7 @@ ghost use Rattle.safety.specs.Safety.{vectors_of};
 ghost use Rattle.pick.specs.Pick.{taken};
 ghost use Rattle.rules.specs.Decide.{decide};
 ghost use Rattle.routing.specs.Decide.{chosen};
-ghost use Rattle.journey.specs.Journey.{leave, route, journey_refusal, journey, outcome, vectors_after, path_by, path_after, said};
+ghost use Rattle.journey.specs.Journey.{leave, journey_refusal, journey, outcome, vectors_after, path_by, path_after, said};
 ghost use Rattle.journey.specs.Promise.{JourneyWalks, JourneyArrives, JourneyRefuses};
 ghost use Rattle.journey.specs.Message.{Crossed, Walks, ahead};
 

@@ -17,18 +17,6 @@ use Rattle.record.specs.Open.{length_in, kind_in, n_in, status_in, links_in, ope
 abbrev room : List ℕ → List ℕ → List ℕ → Bool
 room bytes status links = leb (2 ^ n_in bytes) (length status) && leb (2 ^ n_in bytes) (length links)
 
--- no number is above 10
-pub open_refusal_le : (bytes status links : List ℕ) → open_refusal bytes status links ≤ 10
-unfolding open_refusal refusal
-open_refusal_le bytes status links =
-    refusal_le (ltb (length bytes) 5) 10 _ 10 (omega arith)
-    (refusal_le (not (eqb (length_in bytes) (length bytes - 2))) 10 _ 10 (omega arith)
-    (refusal_le (not (eqb (kind_in bytes) 1)) 10 _ 10 (omega arith)
-    (refusal_le (not (dimension (n_in bytes))) 1 _ 10 (omega arith)
-    (refusal_le (not (eqb (length_in bytes) (3 + 3 * 2 ^ n_in bytes))) 10 _ 10 (omega arith)
-    (refusal_le (not (room bytes status links)) 2 _ 10 (omega arith)
-    (refusal_le (not (narrow (n_in bytes) (links_in bytes))) 3 0 10 (omega arith) (omega arith)))))))
-
 -- what holds of a record and the lent slices where Open refuses nothing
 pub record Readable (bytes status links : List ℕ) : Type 0 where
   pub at_least_one : 1 ≤ n_in bytes

@@ -49,16 +49,6 @@ cut_other_end links a i =
 
 -- ---- link words
 
--- the words from i on are narrow if the one at i is and those after it are
-pub narrow_step : (n : ℕ) (links : List ℕ) (i : ℕ) → i < length links
-    → narrow n (drop i links) ≡ (ltb (get_or links i 0) (2 ^ n) && narrow n (drop (i + 1) links))
-unfolding narrow
-narrow_step n links i h = ap (narrow n) (drop-cons links i 0 h ∙ ap (λ (j : ℕ). get_or links i 0 ∷ drop j links) (sym (add-one i)))
-
-pub narrow_end : (n : ℕ) (links : List ℕ) (i : ℕ) → length links ≤ i → narrow n (drop i links) ≡ true
-unfolding narrow
-narrow_end n links i h = ap (narrow n) (drop_of_length-le links h)
-
 -- a word of 16 bits is below 2^n exactly if it is below the lesser of 2^n and 2^16
 pub word_limit : (n w : ℕ) → w < 2 ^ 16 → ltb w (2 ^ n) ≡ ltb w (2 ^ min n 16)
 word_limit n w h = ⊎_elim small large (lt_or_ge n 16)

@@ -5,7 +5,6 @@ use Rattle.cube.proofs.Refusals.{tests_in_turn}
 use Rattle.report.specs.Report.{reported}
 use Rattle.journey.proofs.Refusals.{as_decide}
 use Rattle.journey.proofs.tested.Goals as goal
-use Rattle.journey.proofs.tested.Goals.{Start}
 
 pub returns-in_err-unless : goal.returns-in_err-unless
 returns-in_err-unless c =
