@@ -3,8 +3,8 @@ use mathlib.Core.Path.{◌≡◌, refl, ap, ap₂, sym, ◌∙◌}
 use mathlib.Core.Bool.{Bool, true, false, not, xor, cond, ◌&&◌, ◌||◌, and-false, and_comm, or-true, or-false, true≢false, false≢true}
 use mathlib.Core.Logic.{⊎_elim}
 use Prim.Native.Nat.{ℕ, zero, suc, ◌+◌, ◌*◌, ◌-◌, ◌/◌, ◌%◌, ◌^◌, ◌≤◌, ◌<◌}
-use native.Mathlib.Nat.{mod-eq_of_lt, mod-one, mod-lt, le_trans, le_of_eq, lt_of_le_of_lt, lt_of_lt_of_le, add-zero, eq-zero-or-pos, pow-succ', zero-mul, add-mul, mul_assoc, le-mul_of_pos_right}
-use native.Mathlib.Numerals.{add-one, add-two, add-three, add-four, add_five, one-add}
+use native.Mathlib.Nat.{mod-eq_of_lt, mod-one, mod-lt, le_trans, le_of_eq, lt_of_le_of_lt, lt_of_lt_of_le, add-zero, eq-zero-or-pos, pow-succ', add-mul, mul_assoc}
+use native.Mathlib.Numerals.{add-one, one-add}
 use native.Mathlib.Omega.{arith}
 use borrow.Author.Tests.{lt-ltb, eq-eqb, ne_eqb, eqb-true, eqb-false}
 use lib.Bits.{bit_xor, bit_and, and_le_l, xor_lt, xor_comm}

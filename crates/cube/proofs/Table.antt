@@ -5,8 +5,8 @@ use Prim.Native.Nat.{ℕ, zero, suc, ◌+◌, ◌≤◌, ◌<◌}
 use native.Mathlib.Nat.{add-zero, zero-add}
 use native.Mathlib.Numerals.{add-one}
 use native.Mathlib.Omega.{arith}
-use lib.ListN.{length, get_or, take, drop, set, replicate, length-append, length-drop}
-use lib.Seq.{drop-cons, drop-length, append_snoc, set_at, length-take-le, get_or-take, get_or-drop, ext_get_or}
+use lib.ListN.{length, get_or, take, drop, set, replicate}
+use lib.Seq.{drop-cons, drop-length, append_snoc, set_at, ext_get_or}
 use Rattle.cube.specs.Table.{from, table}
 
 length_from : (f : ℕ → ℕ) (a k : ℕ) → length (from f a k) ≡ k

@@ -7,8 +7,8 @@ use native.Mathlib.Omega.{arith}
 use borrow.Author.Tests.{eqb-true, leb-true, ltb-false, not-false}
 use lib.Dec.{leb, ltb, eqb}
 use lib.ListN.{length, drop}
-use Rattle.cube.specs.Reply.{refused, accepted, refusal, unless, kept}
-use Rattle.cube.proofs.Reply.{passed, refusal_le}
+use Rattle.cube.specs.Reply.{refused, accepted, unless, kept}
+use Rattle.cube.proofs.Reply.{passed}
 use Rattle.report.specs.Report.{dimension, narrow}
 use Rattle.report.proofs.Laws.{dimension_range}
 use Rattle.record.specs.Open.{length_in, kind_in, n_in, status_in, links_in, open_refusal, opened, status_opened, links_opened}

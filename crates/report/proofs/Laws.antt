@@ -3,16 +3,14 @@ use mathlib.Core.Path.{◌≡◌, refl, ap, ap₂, sym, ◌∙◌}
 use mathlib.Core.Bool.{true, false, ◌&&◌, ◌||◌, and-false, or_comm, and-eq-true_iff}
 use mathlib.Core.List.{List, [], ◌∷◌}
 use mathlib.Core.Logic.{⊎_elim}
-use Prim.Native.Nat.{ℕ, zero, suc, min, ◌+◌, ◌^◌, ◌≤◌, ◌<◌}
+use Prim.Native.Nat.{ℕ, zero, suc, min, ◌^◌, ◌≤◌, ◌<◌}
 use native.Mathlib.Nat.{lt_of_lt_of_le}
-use native.Mathlib.Numerals.{add-one}
 use native.Mathlib.Omega.{arith}
 use borrow.Author.Tests.{lt-ltb, le-ltb, leb-true, ltb-true}
 use lib.Bits.{bit_or, or_lt}
 use lib.Dec.{leb, ltb}
 use lib.Pow.{pow_mono, pow_pos}
-use lib.Seq.{drop-cons}
-use lib.ListN.{length, get_or, drop, drop_of_length-le, get_or-eq_default}
+use lib.ListN.{length, get_or, get_or-eq_default}
 use Rattle.std.specs.List.{list_all}
 use Rattle.cube.specs.Bits.{bit, flip}
 use Rattle.cube.specs.Count.{pack}
