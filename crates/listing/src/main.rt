@@ -1,7 +1,6 @@
 // Lists the record on standard input.
 #![tactic(auto)]
 
-use cube::Refusal;
 use program::{Failed, Why};
 use std::fmt;
 
@@ -30,12 +29,6 @@ impl fmt::Display for Fault<'_> {
     }
 }
 
-// Whether Open reads the bytes; over 4,096 are refused by 10.
-fn open(bytes: &[u8]) -> Result<u32, Refusal> {
-    Refusal::Record.unless(bytes.len() <= 4096)?;
-    record::open(bytes, &mut [0; 1024], &mut [0; 1024])
-}
-
 // Prints the listing of the bytes in one write, and gives why they are refused, where they are.
 fn list<'a>(rt: &HostRuntime, bytes: &'a [u8]) -> Result<(), Fault<'a>> {
     let mut out = text::buffer();
@@ -43,7 +36,7 @@ fn list<'a>(rt: &HostRuntime, bytes: &'a [u8]) -> Result<(), Fault<'a>> {
     rt.stdout()
         .write_all(&out[..length])
         .map_err(|_| Fault::Output)?;
-    open(bytes).map_err(|refusal| Fault::Refused(Why { refusal, bytes }))?;
+    program::open(bytes).map_err(|refusal| Fault::Refused(Why { refusal, bytes }))?;
     Ok(())
 }
 

@@ -4,7 +4,8 @@
 ghost use Rattle.std.specs.Prelude.{◌≡◌, ◌^◌, ◌<◌, ◌≤◌, min, length, take, IfOk};
 ghost use Rattle.std.specs.Io.KnownBytes.{Consumes, IsAtEnd};
 ghost use Rattle.io.specs.Counts.{IsPrefixLen};
-ghost use Rattle.program.specs.Input.{came};
+ghost use Rattle.record.specs.Open.{said};
+ghost use Rattle.program.specs.Input.{came, answered};
 
 use cube::Refusal;
 use record::word_at;
@@ -33,6 +34,15 @@ pub fn read_all<R: Read>(from: &mut R, room: &mut [u8]) -> Result<usize, Failed>
         }
     }
     Ok(count)
+}
+
+// The dimension of the record that an input is, if Open reads it; over 4,096 bytes are refused by 10.
+#[tactic(auto, using(cube::proofs::Refusals::failed, cube::proofs::Refusals::holds), unfolding(crate::specs::Input::answered))]
+pub fn open(bytes: &[u8]) -> Result<u32, Refusal>
+    ensures { said result ≡ answered bytes.now }
+{
+    Refusal::Record.unless(bytes.len() <= 4096)?;
+    record::open(bytes, &mut [0; 1024], &mut [0; 1024])
 }
 
 // How many boards a cube of dimension n has; from 10 on 1,024.

@@ -210,15 +210,9 @@ fn tell(rt: &HostRuntime, reading: Reading, sweep: u16, status: &[u8]) {
     }
 }
 
-// The dimension of the record, if Open reads it; over 4,096 bytes are refused by 10.
-fn open(bytes: &[u8]) -> Result<u32, Refusal> {
-    Refusal::Record.unless(bytes.len() <= 4096)?;
-    record::open(bytes, &mut [0; 1024], &mut [0; 1024])
-}
-
 // Prints the record with the log's status bytes in place of its own. No board is heard before the log speaks.
 fn refresh<'a>(rt: &HostRuntime, asked: &mut Asked, bytes: &'a mut [u8]) -> Result<(), Fault<'a>> {
-    let n = match open(bytes) {
+    let n = match program::open(bytes) {
         Ok(n) => n,
         Err(refusal) => return Err(Fault::Record(Why { refusal, bytes })),
     };
