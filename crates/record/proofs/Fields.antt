@@ -1,17 +1,14 @@
 -- The laws of a record's fields.
-use mathlib.Core.Path.{◌≡◌, refl, ap}
-use mathlib.Core.Bool.{◌&&◌}
+use mathlib.Core.Path.{◌≡◌, ap}
+use mathlib.Core.Bool.{true, false}
 use mathlib.Core.List.{List}
-use Prim.Native.Nat.{ℕ, zero, suc, ◌+◌, ◌*◌, ◌^◌, ◌≤◌}
-use native.Mathlib.Numerals.{add-one}
-use lib.Dec.{ltb}
-use Rattle.std.specs.List.{list_all, range_with_len}
+use Prim.Native.Nat.{ℕ, ◌+◌, ◌*◌, ◌^◌, ◌≤◌, ◌<◌}
 use native.Mathlib.Omega.{arith}
-use lib.ListN.{length, drop, length-drop}
+use lib.ListN.{length, get_or, drop, length-drop}
 use lib.Pow.{pow_mono}
 use lib.Seq.{length-take-le}
-use Rattle.cube.proofs.Table.{length_table}
-use Rattle.cube.specs.Table.{from, table}
+use Rattle.cube.proofs.Table.{length_table, get_or_table}
+use Rattle.report.proofs.Laws.{narrow_of, wide_of}
 use Rattle.report.specs.Report.{narrow}
 use Rattle.record.specs.Open.{word, n_in, status_in, link_in, links_in}
 
@@ -33,16 +30,17 @@ pub count_links : (bytes : List ℕ) → length (links_in bytes) ≡ 2 ^ n_in by
 unfolding links_in
 count_links bytes = length_table (link_in bytes) (2 ^ n_in bytes)
 
--- the words of a table are narrow where each is
-narrow_from : (n : ℕ) (f : ℕ → ℕ) (a k : ℕ) → list_all (λ i. ltb (f i) (2 ^ n)) (range_with_len a k) ≡ narrow n (from f a k)
-unfolding narrow from
-narrow_from n f a zero = refl
-narrow_from n f a (suc k) = ap (λ b. ltb (f a) (2 ^ n) && b) (rw add-one (narrow_from n f (suc a) k))
+module _ (bytes : List ℕ) where
+  get_or_links : (a : ℕ) → a < 2 ^ n_in bytes → get_or (links_in bytes) a 0 ≡ link_in bytes a
+  unfolding links_in
+  get_or_links a h = get_or_table (link_in bytes) (2 ^ n_in bytes) a h
 
--- the link words of a record of that many nodes are
-pub narrow_each :
-    (bytes : List ℕ) (nodes : ℕ) →
-    nodes ≡ 2 ^ n_in bytes →
-    list_all (λ a. ltb (word bytes (5 + nodes + 2 * a)) nodes) (range_with_len 0 nodes) ≡ narrow (n_in bytes) (links_in bytes)
-unfolding links_in link_in table
-narrow_each bytes nodes e = rw e (narrow_from (n_in bytes) (link_in bytes) 0 (2 ^ n_in bytes))
+  -- the link words of a record are narrow where each is
+  pub narrow_links_lem : ((a : ℕ) → a < 2 ^ n_in bytes → link_in bytes a < 2 ^ n_in bytes) → narrow (n_in bytes) (links_in bytes) ≡ true
+  narrow_links_lem all =
+      narrow_of (n_in bytes) (links_in bytes)
+      (λ a h. let l : a < 2 ^ n_in bytes = omega (arith, count_links bytes) in omega (arith, get_or_links a l, all a l))
+
+  -- and are not where one isn't
+  pub wide_links : (a : ℕ) → a < 2 ^ n_in bytes → 2 ^ n_in bytes ≤ link_in bytes a → narrow (n_in bytes) (links_in bytes) ≡ false
+  wide_links a h l = wide_of (n_in bytes) (links_in bytes) a (omega (arith, count_links bytes)) (omega (arith, get_or_links a h))

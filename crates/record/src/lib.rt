@@ -1,7 +1,7 @@
 // One report record: bytes on the wire.
 #![tactic(auto)]
 
-ghost use Rattle.std.specs.Prelude.{◌≡◌, ◌+◌, ◌*◌, ◌^◌, ◌≤◌, length};
+ghost use Rattle.std.specs.Prelude.{◌≡◌, ◌+◌, ◌*◌, ◌^◌, ◌<◌, ◌≤◌, length};
 ghost use Rattle.cube.specs.Refusals.{refused_by};
 ghost use Rattle.cube.specs.Reply.{OneAnswer};
 ghost use Rattle.report.specs.Report.{narrow};
@@ -33,19 +33,27 @@ fn nodes_of(n: u32) -> usize
 }
 
 // The link word of node a in a record of that many nodes.
+#[tactic(auto, unfolding(crate::specs::Open::word))]
 fn link(bytes: &[u8], nodes: usize, a: usize) -> u16
-    requires { (nodes ≤ 1024) × (a ≤ 1024) }
+    requires { (length bytes.now ≡ 5 + 3 * nodes) × (a < nodes) }
     ensures { result ≡ word bytes.now (5 + nodes + 2 * a) }
 {
-    word_at(bytes, 5 + nodes + 2 * a)
+    let at = 5 + nodes + 2 * a;
+    u16::from_le_bytes([bytes[at], bytes[at + 1]])
 }
 
 // Whether every link word of a record of that many nodes is below their number.
 fn narrow_links(bytes: &[u8], nodes: usize) -> bool
-    requires { (nodes ≡ 2 ^ n_in bytes.now) × (nodes ≤ 1024) }
+    requires { (nodes ≡ 2 ^ n_in bytes.now) × (length bytes.now ≡ 5 + 3 * nodes) }
     ensures { result ≡ narrow (n_in bytes.now) (links_in bytes.now) }
 {
-    (0..nodes).all(|a| usize::from(link(bytes, nodes, a)) < nodes)
+    // A loop, since `all` over the same range takes half as long again.
+    for a in 0..nodes {
+        if nodes <= usize::from(link(bytes, nodes, a)) {
+            return false;
+        }
+    }
+    true
 }
 
 // What is tested before anything is written.
@@ -68,7 +76,7 @@ fn tested(bytes: &[u8], status: &[u8], links: &[u16]) -> Result<(), Refusal>
 // Copies the link words of a record to the places lent for them, one for each node.
 #[tactic(auto, using(cube::proofs::Table::written_none, cube::proofs::Table::written_next, cube::proofs::Table::written_all, crate::proofs::Fields::link_at), unfolding(crate::specs::Open::links_in))]
 fn write_links(bytes: &[u8], links: &mut [u16])
-    requires { (length links.old ≡ 2 ^ n_in bytes.now) × (length links.old ≤ 1024) }
+    requires { (length links.old ≡ 2 ^ n_in bytes.now) × (length bytes.now ≡ 5 + 3 * length links.old) }
     ensures { links.new ≡ links_in bytes.now }
 {
     let nodes = links.len();

@@ -1,18 +1,23 @@
 -- `record::narrow_links` meets its contract.
-use mathlib.Core.Path.{◌∙◌, refl}
-use Prim.Native.Nat.{◌+◌, ◌*◌}
+use mathlib.Core.Path.{sym}
+use borrow.Author.Count.{below_none, below_more}
 use native.Mathlib.Omega.{arith}
-use lib.Dec.{ltb}
-use Rattle.std.proofs.Common.{rules, tests}
-use Rattle.std.proofs.lemmas.Iterator.{YieldsList-from_range}
-use Rattle.std.proofs.lemmas.Iterator.Search.{all_from_yields_List}
-use Rattle.record.specs.Open.{word}
-use Rattle.record.proofs.Fields.{narrow_each}
+use Rattle.record.proofs.Fields.{link_at, narrow_links_lem, wide_links}
 use Rattle.record.proofs.narrow_links.Goals as goal
+
+pub loop-a-init : goal.loop-a-init
+loop-a-init c = below_none _
+
+pub returns-then-nodes-from : goal.returns-then-nodes-from
+returns-then-nodes-from c =
+    let b = c.args.bytes.now in
+    let a = c.loop-a.a in
+    sym (wide_links b a (omega (arith, c.requires.0)) (omega (arith, link_at b _ a c.requires.0)))
+
+pub loop-a-preserved : goal.loop-a-preserved
+loop-a-preserved c = below_more _ _ c.loop-a.invariant (omega arith)
 
 pub returns : goal.returns
 returns c =
     let b = c.args.bytes.now in
-    let nodes = c.args.nodes in
-    all_from_yields_List (λ a. ltb (word b (5 + nodes + 2 * a)) nodes) _ _ c.all.result c.all.ensures.ran (YieldsList-from_range 0 nodes nodes refl (omega arith)) (λ x r q k. search (rules, tests))
-    ∙ narrow_each b nodes c.requires.0
+    sym (narrow_links_lem b (λ a h. omega (arith, link_at b _ a c.requires.0, c.loop-a.invariant a (omega (arith, c.requires.0)))))
