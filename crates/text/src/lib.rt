@@ -26,6 +26,7 @@ pub fn buffer() -> [u8; LONGEST]
 }
 
 // The name of a class between two spaces.
+#[tactic(auto, unfolding(crate::specs::Listing::spaced))]
 fn name_of(class: Class) -> &'static str
     ensures { result.now ≡ spec.spaced class }
 {
