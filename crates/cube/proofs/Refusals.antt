@@ -8,7 +8,7 @@ use Rattle.std.specs.Prelude.{Result, Ok, Err, is_ok}
 use Rattle.cube.specs.Reply.{Reply, refused, accepted, unless, kept, OneAnswer}
 use Rattle.cube.specs.Refusals.{number_in, saying, refused_by}
 use Rattle.cube.specs.declared.refusal.Refusal.{Refusal}
-use Rattle.cube.specs.declared.refusal.Refusal.TheVariants.{Dimension, Length, WideLink, Outside, BoardLost, DestinationLost, NoWay, Contradiction, NoOffer, Record, LogRecord, LogNode}
+use Rattle.cube.specs.declared.refusal.Refusal.TheVariants.{Dimension, Length, LinkWord, Address, Source, Destination, NoRoute, NotBorneOut, NothingToOffer, Malformed, LogRecord, LogNode}
 use Rattle.cube.proofs.Reply.{unless_some, unless_none, kept_some, kept_none, one_answer}
 
 -- a test that refused didn't hold, and the refusal is its own
@@ -30,14 +30,14 @@ of_test false r = refl
 pub number_some : (e : Refusal) → number_in e ≡ 0 → ⊥
 number_some Dimension h = omega arith
 number_some Length h = omega arith
-number_some WideLink h = omega arith
-number_some Outside h = omega arith
-number_some BoardLost h = omega arith
-number_some DestinationLost h = omega arith
-number_some NoWay h = omega arith
-number_some Contradiction h = omega arith
-number_some NoOffer h = omega arith
-number_some Record h = omega arith
+number_some LinkWord h = omega arith
+number_some Address h = omega arith
+number_some Source h = omega arith
+number_some Destination h = omega arith
+number_some NoRoute h = omega arith
+number_some NotBorneOut h = omega arith
+number_some NothingToOffer h = omega arith
+number_some Malformed h = omega arith
 number_some LogRecord h = omega arith
 number_some LogNode h = omega arith
 
@@ -54,28 +54,28 @@ abbrev pub refusal_of : ℕ → Refusal
 refusal_of zero = Dimension
 refusal_of (suc zero) = Dimension
 refusal_of (suc (suc zero)) = Length
-refusal_of (suc (suc (suc zero))) = WideLink
-refusal_of (suc (suc (suc (suc zero)))) = Outside
-refusal_of (suc (suc (suc (suc (suc zero))))) = BoardLost
-refusal_of (suc (suc (suc (suc (suc (suc zero)))))) = DestinationLost
-refusal_of (suc (suc (suc (suc (suc (suc (suc zero))))))) = NoWay
-refusal_of (suc (suc (suc (suc (suc (suc (suc (suc zero)))))))) = Contradiction
-refusal_of (suc (suc (suc (suc (suc (suc (suc (suc (suc zero))))))))) = NoOffer
-refusal_of (suc (suc (suc (suc (suc (suc (suc (suc (suc (suc zero)))))))))) = Record
+refusal_of (suc (suc (suc zero))) = LinkWord
+refusal_of (suc (suc (suc (suc zero)))) = Address
+refusal_of (suc (suc (suc (suc (suc zero))))) = Source
+refusal_of (suc (suc (suc (suc (suc (suc zero)))))) = Destination
+refusal_of (suc (suc (suc (suc (suc (suc (suc zero))))))) = NoRoute
+refusal_of (suc (suc (suc (suc (suc (suc (suc (suc zero)))))))) = NotBorneOut
+refusal_of (suc (suc (suc (suc (suc (suc (suc (suc (suc zero))))))))) = NothingToOffer
+refusal_of (suc (suc (suc (suc (suc (suc (suc (suc (suc (suc zero)))))))))) = Malformed
 refusal_of (suc (suc (suc (suc (suc (suc (suc (suc (suc (suc (suc zero))))))))))) = LogRecord
 refusal_of (suc (suc (suc (suc (suc (suc (suc (suc (suc (suc (suc (suc k)))))))))))) = LogNode
 
 pub refusal_back : (e : Refusal) → refusal_of (number_in e) ≡ e
 refusal_back Dimension = refl
 refusal_back Length = refl
-refusal_back WideLink = refl
-refusal_back Outside = refl
-refusal_back BoardLost = refl
-refusal_back DestinationLost = refl
-refusal_back NoWay = refl
-refusal_back Contradiction = refl
-refusal_back NoOffer = refl
-refusal_back Record = refl
+refusal_back LinkWord = refl
+refusal_back Address = refl
+refusal_back Source = refl
+refusal_back Destination = refl
+refusal_back NoRoute = refl
+refusal_back NotBorneOut = refl
+refusal_back NothingToOffer = refl
+refusal_back Malformed = refl
 refusal_back LogRecord = refl
 refusal_back LogNode = refl
 

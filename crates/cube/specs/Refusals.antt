@@ -2,20 +2,20 @@
 use Rattle.std.specs.Prelude.{ℕ, Result, Ok, Err}
 use Rattle.cube.specs.Reply.{Reply, refused, accepted}
 use Rattle.cube.specs.declared.refusal.Refusal.{Refusal}
-use Rattle.cube.specs.declared.refusal.Refusal.TheVariants.{Dimension, Length, WideLink, Outside, BoardLost, DestinationLost, NoWay, Contradiction, NoOffer, Record, LogRecord, LogNode}
+use Rattle.cube.specs.declared.refusal.Refusal.TheVariants.{Dimension, Length, LinkWord, Address, Source, Destination, NoRoute, NotBorneOut, NothingToOffer, Malformed, LogRecord, LogNode}
 
 -- the numbers of document 01
 abbrev pub number_in : Refusal → ℕ
 number_in Dimension = 1
 number_in Length = 2
-number_in WideLink = 3
-number_in Outside = 4
-number_in BoardLost = 5
-number_in DestinationLost = 6
-number_in NoWay = 7
-number_in Contradiction = 8
-number_in NoOffer = 9
-number_in Record = 10
+number_in LinkWord = 3
+number_in Address = 4
+number_in Source = 5
+number_in Destination = 6
+number_in NoRoute = 7
+number_in NotBorneOut = 8
+number_in NothingToOffer = 9
+number_in Malformed = 10
 number_in LogRecord = 11
 number_in LogNode = 12
 

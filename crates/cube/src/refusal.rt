@@ -13,21 +13,21 @@ pub enum Refusal {
     // A slice has not the length that n asks for.
     Length = 2,
     // A link word marks a dimension above n.
-    WideLink = 3,
+    LinkWord = 3,
     // A node or a relative address is none of this cube.
-    Outside = 4,
+    Address = 4,
     // The board that is asked isn't working.
-    BoardLost = 5,
+    Source = 5,
     // The destination's board isn't working.
-    DestinationLost = 6,
+    Destination = 6,
     // No neighbour of the source leads on.
-    NoWay = 7,
+    NoRoute = 7,
     // The source's own bit is 1, and no neighbour leads on.
-    Contradiction = 8,
+    NotBorneOut = 8,
     // No neighbour of a later board leads on.
-    NoOffer = 9,
+    NothingToOffer = 9,
     // The bytes are no report record.
-    Record = 10,
+    Malformed = 10,
     // The bytes are no status record.
     LogRecord = 11,
     // A status record names a node that the cube lacks.

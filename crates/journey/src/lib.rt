@@ -128,7 +128,7 @@ fn tested(
     let roomy = roomy(report.n, picks, path);
     Refusal::Dimension.unless(report.has_dimension())?;
     Refusal::Length.unless(report.is_sized(vectors) & roomy)?;
-    Refusal::WideLink.unless(report.is_narrow())?;
+    Refusal::LinkWord.unless(report.is_narrow())?;
     routing::tested(report, vectors, s, d)
 }
 

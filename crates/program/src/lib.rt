@@ -41,7 +41,7 @@ pub fn read_all<R: Read>(from: &mut R, room: &mut [u8]) -> Result<usize, Failed>
 pub fn open(bytes: &[u8]) -> Result<u32, Refusal>
     ensures { said result ≡ answered bytes.now }
 {
-    Refusal::Record.unless(bytes.len() <= 4096)?;
+    Refusal::Malformed.unless(bytes.len() <= 4096)?;
     record::open(bytes, &mut [0; 1024], &mut [0; 1024])
 }
 
@@ -119,14 +119,14 @@ impl fmt::Display for Why<'_> {
                 f,
                 "the record's dimension n, its fifth byte, is {n}, and n is from 1 to 10"
             ),
-            Refusal::WideLink => {
+            Refusal::LinkWord => {
                 let node = too_wide(bytes, boards);
                 write!(
                     f,
                     "the link word of node {node} marks a dimension above n = {n}"
                 )
             }
-            Refusal::Record => malformed(f, bytes, boards),
+            Refusal::Malformed => malformed(f, bytes, boards),
             _ => write!(f, "the record is refused"),
         }
     }

@@ -61,16 +61,16 @@ fn narrow_links(bytes: &[u8], nodes: usize) -> bool
 fn tested(bytes: &[u8], status: &[u8], links: &[u16]) -> Result<(), Refusal>
     ensures { refused_by result ≡ open_refusal bytes.now status.now links.now }
 {
-    Refusal::Record.unless(5 <= bytes.len())?;
+    Refusal::Malformed.unless(5 <= bytes.len())?;
     let length = usize::from(word_at(bytes, 0));
-    Refusal::Record.unless(length == bytes.len() - 2)?;
-    Refusal::Record.unless(word_at(bytes, 2) == 1)?;
+    Refusal::Malformed.unless(length == bytes.len() - 2)?;
+    Refusal::Malformed.unless(word_at(bytes, 2) == 1)?;
     let n = u32::from(bytes[4]);
     Refusal::Dimension.unless(report::dimension(n))?;
     let nodes = nodes_of(n);
-    Refusal::Record.unless(length == 3 + 3 * nodes)?;
+    Refusal::Malformed.unless(length == 3 + 3 * nodes)?;
     Refusal::Length.unless(nodes <= status.len() && nodes <= links.len())?;
-    Refusal::WideLink.unless(narrow_links(bytes, nodes))
+    Refusal::LinkWord.unless(narrow_links(bytes, nodes))
 }
 
 // Copies the link words of a record to the places lent for them, one for each node.

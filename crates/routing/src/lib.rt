@@ -50,7 +50,7 @@ fn assured(p: u16, hops: u32) -> Result<Kind, Refusal>
     ensures { (q : ℕ) → deciding.said result ≡ choose true p q hops }
 {
     if p == 0 {
-        return Err(Refusal::Contradiction);
+        return Err(Refusal::NotBorneOut);
     }
     Ok(Kind::Assured(Offer { mask: p, hops }))
 }
@@ -61,7 +61,7 @@ fn detour(q: u16, hops: u32) -> Result<Kind, Refusal>
     ensures { deciding.said result ≡ choose false 0 q hops }
 {
     if q == 0 {
-        return Err(Refusal::NoWay);
+        return Err(Refusal::NoRoute);
     }
     Ok(Kind::Detour(Offer {
         mask: q,
@@ -74,7 +74,7 @@ fn proceed(p: u16) -> Result<Option<u16>, Refusal>
     ensures { hopping.said result ≡ proceed p }
 {
     if p == 0 {
-        return Err(Refusal::NoOffer);
+        return Err(Refusal::NothingToOffer);
     }
     Ok(Some(p))
 }
@@ -155,9 +155,9 @@ pub fn tested(report: &Report, vectors: &[u16], a: Node, d: Node) -> Result<(), 
 {
     Refusal::Dimension.unless(report.has_dimension())?;
     Refusal::Length.unless(report.is_sized(vectors))?;
-    Refusal::Outside.unless(report.has_node(a) & report.has_node(d))?;
-    Refusal::BoardLost.unless(report.works(a))?;
-    Refusal::DestinationLost.unless(report.works(d))
+    Refusal::Address.unless(report.has_node(a) & report.has_node(d))?;
+    Refusal::Source.unless(report.works(a))?;
+    Refusal::Destination.unless(report.works(d))
 }
 
 // Decide: the decision at a source s for a destination d, over lent vectors.

@@ -112,7 +112,7 @@ fn opened<'a>(
     requires { (status.old ≡ replicate 1024 0) × (links.old ≡ replicate 1024 0) }
     ensures { Answers bytes.now result }
 {
-    Refusal::Record.unless(bytes.len() <= 4096)?;
+    Refusal::Malformed.unless(bytes.len() <= 4096)?;
     let n = record::open(bytes, status, links)?;
     let nodes = 1 << n;
     Ok(Report {

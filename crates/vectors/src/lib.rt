@@ -153,7 +153,7 @@ fn tested(report: &Report, vectors: &[u16]) -> Result<(), Refusal>
 {
     Refusal::Dimension.unless(report.has_dimension())?;
     Refusal::Length.unless(report.is_sized(vectors))?;
-    Refusal::WideLink.unless(report.is_narrow())
+    Refusal::LinkWord.unless(report.is_narrow())
 }
 
 // Fill: writes all 2^n vectors into the lent slice.
