@@ -63,10 +63,10 @@ impl Page<'_> {
     }
 
     // Puts a line of a word and a number.
-    pub fn put_titled(&mut self, word: &str, number: u64)
+    pub fn put_titled(&mut self, word: &[u8], number: u64)
         ensures { Puts (titled word.now number) self.old self.new }
     {
-        self.put(word.as_bytes());
+        self.put(word);
         self.put_value(number);
     }
 }
