@@ -6,6 +6,7 @@ ghost use Rattle.lines.specs.Text.{decimal, valued, titled};
 ghost use Rattle.lines.specs.Put.{Puts};
 
 // A lent buffer and the place where the next text goes.
+// std's writer over a slice fails where the room ends, and no clause says which bytes it wrote; so this is a type of its own.
 #[derive(Drop)]
 pub struct Page<'a> {
     pub out: &'a mut [u8],

@@ -72,7 +72,7 @@ fn put_lines(page: &mut Page, report: &Report, vectors: &[u16])
     }
 }
 
-// Room for the vectors of the largest cube.
+// Room for the vectors of the largest cube. As a literal in its caller it made goals that `search` gave up on.
 fn room() -> [u16; 1024]
     ensures { 1024 ≡ length result }
 {
