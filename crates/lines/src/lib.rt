@@ -6,6 +6,7 @@ ghost use Rattle.lines.specs.Text.{decimal, valued, titled};
 ghost use Rattle.lines.specs.Put.{Puts};
 
 // A lent buffer and the place where the next text goes.
+// std's writer over a slice fails where the room ends, and no clause says which bytes it wrote; so this is a type of its own.
 #[derive(Drop)]
 pub struct Page<'a> {
     pub out: &'a mut [u8],
@@ -63,10 +64,10 @@ impl Page<'_> {
     }
 
     // Puts a line of a word and a number.
-    pub fn put_titled(&mut self, word: &str, number: u64)
+    pub fn put_titled(&mut self, word: &[u8], number: u64)
         ensures { Puts (titled word.now number) self.old self.new }
     {
-        self.put(word.as_bytes());
+        self.put(word);
         self.put_value(number);
     }
 }

@@ -20,6 +20,7 @@ pub struct Failed {
 
 // Reads until an input ends, which is a read of no bytes, until a read fails, or until the room is full, and gives how many bytes came.
 // A room of one byte more than is allowed is full just where too much came. What the reader gave stands in the room, in its order.
+// The count goes by what each read gives, so no range or chain counts for it; std's own loops over reads fill a Vec, which is heap.
 pub fn read_all<R: Read>(from: &mut R, room: &mut [u8]) -> Result<usize, Failed>
     ensures count { IsPrefixLen (came result) room.new }
     ensures bytes { Consumes (R.remaining from.old) (R.remaining from.new) (take (came result) room.new) }

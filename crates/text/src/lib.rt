@@ -72,7 +72,7 @@ fn put_lines(page: &mut Page, report: &Report, vectors: &[u16])
     }
 }
 
-// Room for the vectors of the largest cube.
+// Room for the vectors of the largest cube. As a literal in its caller it made goals that `search` gave up on.
 fn room() -> [u16; 1024]
     ensures { 1024 ≡ length result }
 {
@@ -99,7 +99,7 @@ fn put_cube(page: &mut Page, report: &Report)
         Puts (spec.listed (accepted R.dim) R.status R.links) page.old page.new }
 {
     let vectors = vectors_of(report);
-    page.put_titled("cube", report.n as u64);
+    page.put_titled(b"cube", report.n as u64);
     put_lines(page, report, &vectors);
 }
 
@@ -133,7 +133,7 @@ pub fn listing(bytes: &[u8], out: &mut [u8; LONGEST]) -> usize
     let mut links = [0; 1024];
     match opened(bytes, &mut status, &mut links) {
         Ok(report) => put_cube(&mut page, &report),
-        Err(refusal) => page.put_titled("refused", u32::from(refusal) as u64),
+        Err(refusal) => page.put_titled(b"refused", u32::from(refusal) as u64),
     }
     page.at
 }

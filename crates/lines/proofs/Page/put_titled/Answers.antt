@@ -5,4 +5,4 @@ use Rattle.lines.proofs.Page.put_titled.Goals as goal
 
 pub returns : goal.returns
 unfolding titled
-returns c = rw (← c.as_bytes.ensures.value) (puts_then c.put.ensures c.put_value.ensures)
+returns c = puts_then c.put.ensures c.put_value.ensures
