@@ -31,7 +31,7 @@ few : (c : After-offer-offer)
 few c =
     let R = reported c.args.self.now.report.now in
     let h = decide_hops _ _ _ _ _ c.requires.accepts in
-    let e = c.offer-offer.ensures.1 in
+    let e = c.offer-offer.ensures.hops in
     (omega (arith, e, h), e ∙ sym (leave_arrives R _ _ _ c.args.self.now.picks.now c.requires.accepts (omega (arith, h, c.args.self.now.chosen))).1)
 
 -- the message after its first hop
@@ -43,7 +43,7 @@ first : (c : After-follow-first)
 first c =
     let R = reported c.args.self.now.report.now in
     let m : Message = record { node = c.args.s; nav = c.to.result } in
-    let e = c.offer-offer.ensures in
+    let e = (c.offer-offer.ensures.mask, c.offer-offer.ensures.hops) in
     let h = decide_hops _ _ _ _ _ c.requires.accepts in
     sets_out R c.args.self.now.picks.now m c.args.d.0 _ c.requires.accepts c.follow-first.result _ _ c.to.ensures e
     (omega (arith, c.if-offer-ne0.true)) (omega (arith, h, e.1, c.args.self.now.chosen)) (λ mask q. rw (sym (same_offer q)) c.follow-first.ensures)
