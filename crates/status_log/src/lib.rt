@@ -12,6 +12,7 @@ ghost use Rattle.status_log.specs.Sweep.{sweep_in};
 
 use cube::Refusal;
 use record::word_at;
+use std::str;
 
 // The first record's refusal that has one; a record cut short at the end has one.
 fn check_all(log: &[u8], n: u32) -> Result<(), Refusal>
@@ -84,17 +85,10 @@ pub fn update(n: u32, sweep: u16, part: &[u8], status: &mut [u8]) -> Result<usiz
 pub fn sweep_of(text: &[u8]) -> Option<u16>
     ensures { result ≡ sweep_in text.now }
 {
-    if text.is_empty() {
+    if !text.iter().all(|byte| byte.is_ascii_digit()) {
         return None;
     }
-    let mut x: u16 = 0;
-    for byte in text {
-        if !byte.is_ascii_digit() {
-            return None;
-        }
-        x = x.checked_mul(10)?.checked_add(u16::from(*byte - b'0'))?;
-    }
-    Some(x)
+    str::from_utf8(text).ok()?.parse().ok()
 }
 
 // For every input the contracts of `refresh` and `update` allow one answer; the status bytes are given by `status_after` and `update_after`.
