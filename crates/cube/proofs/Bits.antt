@@ -7,7 +7,7 @@ use native.Mathlib.Omega.{arith}
 use mathlib.Core.Logic.{⊎_elim}
 use borrow.Author.Tests.{le-leb}
 use lib.Dec.{eqb}
-use Rattle.cube.proofs.Order.{lt_or_ge}
+use Rattle.std.proofs.lemmas.Bool.{cases_lt}
 use lib.Bits.{bit_xor, bit_and, bit_or, differ, and_step, and_shr, or_step, or_shr, xor_step, xor_shr, xor_lt, xor_zero_r}
 use lib.Pow.{pow_pos, pow_mono, pow-lt, pow-add, field, mod-mod-pow}
 use Rattle.cube.specs.Bits.{bit, place, flip, crossed}
@@ -90,7 +90,7 @@ bit_place i = ap (λ (d : ℕ). eqb (d % 2) 1) (div_self (pow_pos i))
 pub bit_place_other : (i j : ℕ) → (j ≡ i → ⊥) → bit (place i) j ≡ false
 unfolding place
 bit_place_other zero j ne = bit_zero j
-bit_place_other (suc i) j ne = ⊎_elim above below (lt_or_ge i j)
+bit_place_other (suc i) j ne = ⊎_elim above below (cases_lt i j)
   where
     below : j ≤ i → bit (2 ^ i) j ≡ false
     below h =

@@ -13,7 +13,7 @@ use lib.Count.{ones, ones_cat}
 use lib.Pow.{pow_pos, pow-lt, pow_mono, high, low, mod-pow-add}
 use Rattle.cube.specs.Bits.{bit, place, flip, weight}
 use Rattle.cube.specs.Count.{one, pack, count, any, ranked}
-use Rattle.cube.proofs.Order.{lt_or_ge, eq_or_ne}
+use Rattle.std.proofs.lemmas.Bool.{cases_lt, cases_eq}
 use Rattle.cube.proofs.Bits.{bit_of_and, bit_shift, bit_zero, bit_of_xor, bit_mod, bit_high, bit_flip, bit_flip_other, flip_lt}
 
 pub one_le : (b : Bool) → one b ≤ 1
@@ -92,7 +92,7 @@ packed_all p n mask e = omega arith
 pub bit_pack : (p : ℕ → Bool) (n i : ℕ) → i < n → bit (pack p n) (suc i) ≡ p (suc i)
 unfolding pack bit
 bit_pack p zero i h = absurd (omega arith)
-bit_pack p (suc n) i h = ⊎_elim (λ (l : i < n). lower l (bit_pack p n i l)) top (lt_or_ge i n)
+bit_pack p (suc n) i h = ⊎_elim (λ (l : i < n). lower l (bit_pack p n i l)) top (cases_lt i n)
   where
     swap : pack p n + one (p (suc n)) * 2 ^ n ≡ one (p (suc n)) * 2 ^ n + pack p n
     swap = omega arith
@@ -164,7 +164,7 @@ pack_each p n P each zero e = absurd (false≢true e)
 pack_each p n P each (suc j) e =
     ⊎_elim (λ (l : j < n). each j l (sym (bit_pack p n j l) ∙ e))
     (λ (l : n ≤ j). absurd (false≢true (sym (bit_high (pack p n) n (suc j) (pack_lt p n) (omega arith)) ∙ e)))
-    (lt_or_ge j n)
+    (cases_lt j n)
 
 -- a packed word that is not 0 has a bit set
 pub pack_find : (p : ℕ → Bool) (n : ℕ) → 0 < pack p n → (i : ℕ) × (i < n) × (p (suc i) ≡ true)
@@ -216,7 +216,7 @@ one_none false e = refl
 pub count_none : (p : ℕ → Bool) (n : ℕ) → count p n ≡ 0 → (i : ℕ) → i < n → p (suc i) ≡ false
 unfolding count
 count_none p zero e i h = absurd (omega arith)
-count_none p (suc n) e i h = ⊎_elim (λ (l : i < n). count_none p n (omega arith) i l) last (lt_or_ge i n)
+count_none p (suc n) e i h = ⊎_elim (λ (l : i < n). count_none p n (omega arith) i l) last (cases_lt i n)
   where
     last : n ≤ i → p (suc i) ≡ false
     last l = let same : i ≡ n = omega arith in rw same (one_none (p (suc n)) (omega arith))
@@ -254,7 +254,7 @@ pub count_drop : (p q : ℕ → Bool) (n i : ℕ) → i < n → p (suc i) ≡ tr
     → ((j : ℕ) → (j ≡ i → ⊥) → p (suc j) ≡ q (suc j)) → count p n ≡ suc (count q n)
 unfolding count
 count_drop p q zero i h ep eq same = absurd (omega arith)
-count_drop p q (suc n) i h ep eq same = ⊎_elim last (λ (ne : n ≡ i → ⊥). earlier ne (count_drop p q n i (omega (arith, ne)) ep eq same)) (eq_or_ne n i)
+count_drop p q (suc n) i h ep eq same = ⊎_elim last (λ (ne : n ≡ i → ⊥). earlier ne (count_drop p q n i (omega (arith, ne)) ep eq same)) (cases_eq n i)
   where
     last : n ≡ i → count p n + one (p (suc n)) ≡ suc (count q n + one (q (suc n)))
     last e =
@@ -274,7 +274,7 @@ unfolding count
 count_mono p i zero h = le_of_eq (ap (count p) (let e : i ≡ 0 = omega arith in e))
 count_mono p i (suc n) h =
     ⊎_elim (λ (l : i < suc n). le_trans (count_mono p i n (omega arith)) (omega arith))
-    (λ (l : suc n ≤ i). le_of_eq (ap (count p) (let e : i ≡ suc n = omega arith in e))) (lt_or_ge i (suc n))
+    (λ (l : suc n ≤ i). le_of_eq (ap (count p) (let e : i ≡ suc n = omega arith in e))) (cases_lt i (suc n))
 
 -- ---- ranked
 
@@ -291,7 +291,7 @@ ranked_le p r (suc n) = go (p (suc n) && eqb (count p n) r) (ranked_le p r n)
 pub ranked_found : (p : ℕ → Bool) (r n i : ℕ) → i < n → p (suc i) ≡ true → count p i ≡ r → ranked p r n ≡ suc i
 unfolding ranked count
 ranked_found p r zero i h e k = absurd (omega arith)
-ranked_found p r (suc n) i h e k = ⊎_elim (λ (l : i < n). lower l (ranked_found p r n i l e k)) top (lt_or_ge i n)
+ranked_found p r (suc n) i h e k = ⊎_elim (λ (l : i < n). lower l (ranked_found p r n i l e k)) top (cases_lt i n)
   where
     top : n ≤ i → cond (p (suc n) && eqb (count p n) r) (suc n) (ranked p r n) ≡ suc i
     top l = let s : i ≡ n = omega arith in rw (sym s, e, eq-eqb (count p i) r k)
