@@ -1,20 +1,20 @@
 -- The laws of `pack`, `count`, `any`, `ranked` and `weight`. "For i from 1 to n" is said of `suc i` with i below n.
 use mathlib.Core.Path.{◌≡◌, refl, ap, ap₂, sym, ◌∙◌}
-use mathlib.Core.Bool.{Bool, true, false, not, xor, cond, ◌&&◌, ◌||◌, and-false, and_comm, or-true, or-false, true≢false, false≢true}
+use mathlib.Core.Bool.{Bool, true, false, not, cond, ◌&&◌, ◌||◌, and-false, and_comm, or-true, or-false, true≢false, false≢true}
 use mathlib.Core.Logic.{⊎_elim}
 use Prim.Native.Nat.{ℕ, zero, suc, ◌+◌, ◌*◌, ◌-◌, ◌/◌, ◌%◌, ◌^◌, ◌≤◌, ◌<◌}
-use native.Mathlib.Nat.{mod-eq_of_lt, mod-one, mod-lt, le_trans, le_of_eq, lt_of_le_of_lt, lt_of_lt_of_le, add-zero, eq-zero-or-pos, pow-succ', add-mul, mul_assoc}
+use native.Mathlib.Nat.{mod-eq_of_lt, mod-one, mod-lt, le_trans, le_of_eq, lt_of_le_of_lt, add-zero, eq-zero-or-pos, pow-succ', add-mul, mul_assoc}
 use native.Mathlib.Numerals.{add-one, one-add}
 use native.Mathlib.Omega.{arith}
 use borrow.Author.Tests.{lt-ltb, eq-eqb, ne_eqb, eqb-true, eqb-false}
-use lib.Bits.{bit_xor, bit_and, and_le_l, xor_lt, xor_comm}
+use lib.Bits.{bit_xor, bit_and, and_le_l, xor_comm, xor_assoc, xor_self, xor_zero_r}
 use lib.Dec.{eqb, ltb}
 use lib.Count.{ones, ones_cat}
-use lib.Pow.{pow_pos, pow-lt, pow_mono, high, low, mod-pow-add}
+use lib.Pow.{pow_pos, pow-lt, high, low, mod-pow-add}
 use Rattle.cube.specs.Bits.{bit, place, flip, weight}
 use Rattle.cube.specs.Count.{one, pack, count, any, ranked}
 use Rattle.std.proofs.lemmas.Bool.{cases_lt, cases_eq}
-use Rattle.cube.proofs.Bits.{bit_of_and, bit_shift, bit_zero, bit_of_xor, bit_mod, bit_high, bit_flip, bit_flip_other, flip_lt}
+use Rattle.cube.proofs.Bits.{bit_of_and, bit_shift, bit_zero, bit_mod, bit_high, bit_flip, bit_flip_other, flip_lt}
 
 pub one_le : (b : Bool) → one b ≤ 1
 one_le true = omega arith
@@ -378,61 +378,16 @@ weight_some n x h e = weight_pos n x h (omega (arith, eqb-false x 0 e))
 
 -- ---- relative addresses
 
-cancel : (a r p : Bool) → xor (xor a p) (xor r p) ≡ xor a r
-unfolding xor
-cancel true true true = refl
-cancel true true false = refl
-cancel true false true = refl
-cancel true false false = refl
-cancel false true true = refl
-cancel false true false = refl
-cancel false false true = refl
-cancel false false false = refl
-
-again : (a x : Bool) → xor a (xor a x) ≡ x
-unfolding xor
-again true true = refl
-again true false = refl
-again false true = refl
-again false false = refl
-
 -- a node with its relative address names the destination, and with the destination its relative address
-pub xor_cancel : (n a x : ℕ) → a < 2 ^ n → x < 2 ^ n → bit_xor a (bit_xor a x) ≡ x
-xor_cancel n a x ha hx =
-    bit_ext (bit_xor a (bit_xor a x)) x n (xor_lt n a (bit_xor a x) ha (xor_lt n a x ha hx)) hx
-    (λ j l. bit_of_xor a (bit_xor a x) (suc j) ∙ ap (xor (bit a (suc j))) (bit_of_xor a x (suc j)) ∙ again (bit a (suc j)) (bit x (suc j)))
-
-self_lt : (x : ℕ) → x < 2 ^ x
-self_lt zero = pow_pos 0
-self_lt (suc x) = omega (arith, self_lt x)
-
--- so of all numbers
 pub xor_twice : (a x : ℕ) → bit_xor a (bit_xor a x) ≡ x
-xor_twice a x =
-    xor_cancel (a + x) a x
-    (lt_of_lt_of_le (self_lt a) (pow_mono {i = a} {j = a + x} (omega arith)))
-    (lt_of_lt_of_le (self_lt x) (pow_mono {i = x} {j = a + x} (omega arith)))
-
-place_lt : (n i : ℕ) → place i < 2 ^ (n + i)
-unfolding place
-place_lt n zero = pow_pos (n + 0)
-place_lt n (suc i) = pow-lt {i = i} {j = n + suc i} (omega arith)
+xor_twice a x = sym (xor_assoc a a x) ∙ ap (λ (y : ℕ). bit_xor y x) (xor_self a)
 
 -- crossing a dimension twice goes back
 pub flip_twice : (a i : ℕ) → flip (flip a i) i ≡ a
 unfolding flip
-flip_twice a i =
-    xor_comm (bit_xor a (place i)) (place i)
-    ∙ ap (bit_xor (place i)) (xor_comm a (place i))
-    ∙ xor_cancel (a + i) (place i) a (place_lt a i) (lt_of_lt_of_le (self_lt a) (pow_mono {i = a} {j = a + i} (omega arith)))
+flip_twice a i = xor_assoc a (place i) (place i) ∙ ap (bit_xor a) (xor_self (place i)) ∙ xor_zero_r a
 
 -- a node and its relative address, both with one dimension crossed, name the same destination
-pub xor_crossed : (n a r i : ℕ) → a < 2 ^ n → r < 2 ^ n → i ≤ n → bit_xor (flip a i) (flip r i) ≡ bit_xor a r
+pub xor_crossed : (a r i : ℕ) → bit_xor (flip a i) (flip r i) ≡ bit_xor a r
 unfolding flip
-xor_crossed n a r i ha hr hi =
-    bit_ext (bit_xor (flip a i) (flip r i)) (bit_xor a r) n
-    (xor_lt n (flip a i) (flip r i) (flip_lt n a i ha hi) (flip_lt n r i hr hi)) (xor_lt n a r ha hr)
-    (λ j l. bit_of_xor (flip a i) (flip r i) (suc j)
-    ∙ ap₂ xor (bit_of_xor a (place i) (suc j)) (bit_of_xor r (place i) (suc j))
-    ∙ cancel (bit a (suc j)) (bit r (suc j)) (bit (place i) (suc j))
-    ∙ sym (bit_of_xor a r (suc j)))
+xor_crossed a r i = xor_assoc a (place i) (flip r i) ∙ ap (bit_xor a) (xor_comm (place i) (flip r i) ∙ flip_twice r i)
