@@ -25,7 +25,7 @@ pub fn word_at(bytes: &[u8], i: usize) -> u16
 }
 
 // How many nodes a cube of dimension n has.
-#[tactic(auto, using(cube::proofs::Bits::pow_shift, crate::proofs::Fields::nodes_le))]
+#[tactic(auto, using(std::proofs::lemmas::Nat::one_shl, crate::proofs::Fields::nodes_le))]
 fn nodes_of(n: u32) -> usize
     requires { n ≤ 10 }
     ensures power { result ≡ 2 ^ n }
