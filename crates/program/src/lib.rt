@@ -132,3 +132,28 @@ impl fmt::Display for Why<'_> {
         }
     }
 }
+
+// What a program over a record says on standard error.
+#[derive(Clone, Copy)]
+pub enum Fault<'a> {
+    Input,
+    Output,
+    Record(Why<'a>),
+}
+
+impl From<Failed> for Fault<'_> {
+    // Reading standard input failed.
+    fn from(_: Failed) -> Self {
+        Fault::Input
+    }
+}
+
+impl fmt::Display for Fault<'_> {
+    fn fmt<W: fmt::Write>(&self, f: &mut fmt::Formatter<W>) -> fmt::Result {
+        match self {
+            Fault::Input => write!(f, "standard input can't be read"),
+            Fault::Output => write!(f, "standard output can't be written"),
+            Fault::Record(why) => write!(f, "{why}"),
+        }
+    }
+}
