@@ -89,6 +89,7 @@ impl fmt::Display for Fault<'_> {
 }
 
 impl<'a> From<program::Fault<'a>> for Fault<'a> {
+    // One of these.
     fn from(fault: program::Fault<'a>) -> Self {
         Fault::Common(fault)
     }
@@ -121,8 +122,8 @@ impl fmt::Display for LogWhy {
 }
 
 impl Wrong {
-    // What is wrong with a record that is refused.
-    fn with(row: &[u8], refusal: Refusal, n: u32) -> Wrong {
+    // What is wrong with a log's record, which is refused for this reason.
+    fn of_record(row: &[u8], refusal: Refusal, n: u32) -> Wrong {
         match refusal {
             Refusal::LogRecord if row.len() < 8 => Wrong::Short(row.len()),
             Refusal::LogRecord => Wrong::Kind(word_at(row, 0), word_at(row, 2)),
@@ -143,13 +144,13 @@ impl LogWhy {
         LogWhy {
             refusal,
             which: before.saturating_add(at).saturating_add(1),
-            wrong: Wrong::with(row, refusal, n),
+            wrong: Wrong::of_record(row, refusal, n),
         }
     }
 }
 
 impl Reading {
-    // After one more part of whole records, unless it is the last.
+    // After one more part, of whole records, of which so many were skipped.
     fn after(self, part: &[u8], skipped: usize) -> Reading {
         Reading {
             records: self.records.saturating_add(part.len() / 8),
