@@ -6,6 +6,7 @@ ghost use Rattle.std.specs.Io.KnownBytes.{Consumes, IsAtEnd};
 ghost use Rattle.io.specs.Counts.{IsPrefixLen};
 ghost use Rattle.record.specs.Open.{said};
 ghost use Rattle.program.specs.Input.{came, answered};
+ghost use Rattle.program.specs.declared.Fault.TheVariants.{Input};
 
 use cube::Refusal;
 use record::word_at;
@@ -152,6 +153,8 @@ pub enum Fault<'a> {
 }
 
 impl From<Failed> for Fault<'_> {
+    ghost from_gives = { λ failed fault. fault ≡ Input };
+
     // Reading standard input failed.
     fn from(_: Failed) -> Self {
         Fault::Input
