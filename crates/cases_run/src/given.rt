@@ -8,7 +8,7 @@ use std::str::{self, FromStr};
 // What a list has behind its numbers, and lent memory before a job.
 pub(crate) const LENT: u8 = 99;
 
-// A list with 99s behind it.
+// A list with 99s behind it, all of which is printed: so an array and a size, and no slice.
 #[derive(Drop)]
 pub(crate) struct List<T> {
     pub(crate) values: [T; 8192],
@@ -22,7 +22,7 @@ impl<T> List<T> {
         &self.values[..self.size]
     }
 
-    // Its numbers, as lent memory. The proof follows one step at a time here.
+    // Its numbers, as lent memory. In one expression, as in `items`, its proof did not close.
     pub(crate) fn items_mut(&mut self) -> &mut [T] {
         let size = self.size;
         let values = &mut self.values;

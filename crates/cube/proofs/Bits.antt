@@ -1,11 +1,11 @@
 -- The laws of single bits: of an exclusive or, of a remainder, of a power, of a neighbour.
 use mathlib.Core.Path.{◌≡◌, refl, ap, sym, ◌∙◌}
-use mathlib.Core.Bool.{Bool, true, false, not, xor, false≢true, ◌&&◌, ◌||◌}
+use mathlib.Core.Bool.{Bool, true, false, not, xor, false≢true, ◌&&◌, ◌||◌, and-false}
 use Prim.Native.Nat.{ℕ, zero, suc, min, max, ◌+◌, ◌*◌, ◌-◌, ◌/◌, ◌%◌, ◌^◌, ◌≤◌, ◌<◌}
 use native.Mathlib.Nat.{div-eq_of_lt, lt_of_lt_of_le, div_self, mul-mod_left}
 use native.Mathlib.Omega.{arith}
 use mathlib.Core.Logic.{⊎_elim}
-use borrow.Author.Tests.{le-leb}
+use borrow.Author.Tests.{le-leb, lt-leb}
 use lib.Dec.{eqb}
 use Rattle.std.proofs.lemmas.Bool.{cases_lt}
 use Rattle.std.proofs.lemmas.Nat.{one_shl}
@@ -151,3 +151,12 @@ pub crossed_flip : (x i : ℕ) → i ≤ 10 → crossed x i ≡ flip x i
 unfolding crossed flip place
 crossed_flip x zero h = sym (xor_zero_r x)
 crossed_flip x (suc i) h = rw (le-leb 1 (suc i) (omega arith), le-leb (suc i) 10 h)
+
+-- below dimension 1 and above 10 nothing is crossed
+pub crossed_low : (x i : ℕ) → i < 1 → x ≡ crossed x i
+unfolding crossed
+crossed_low x i h = simp (lt-leb 1 i h)
+
+pub crossed_high : (x i : ℕ) → 10 < i → x ≡ crossed x i
+unfolding crossed
+crossed_high x i h = simp (lt-leb i 10 h, and-false)

@@ -18,17 +18,14 @@ pub struct Node(pub u16);
 pub struct Nav(pub u16);
 
 // A number with dimension i crossed; outside 1 to 10 the same number.
+#[tactic(auto, using(crate::proofs::Bits::crossed_low, crate::proofs::Bits::crossed_high))]
 fn crossed(x: u16, i: u32) -> u16
     ensures { result ≡ crossed x i }
 {
-    if i < 1 {
-        return x;
+    match i {
+        1..=10 => x ^ (1 << (i - 1)),
+        _ => x,
     }
-    if 10 < i {
-        return x;
-    }
-    let bit: u16 = 1 << (i - 1);
-    x ^ bit
 }
 
 impl Node {
@@ -59,7 +56,7 @@ impl Nav {
     pub fn weight(self) -> u32
         ensures { result ≡ weight self.0 }
     {
-        u16::count_ones(self.0)
+        self.0.count_ones()
     }
 
     // Itself with dimension i crossed; outside 1 to 10 the same address.

@@ -35,7 +35,7 @@ pub enum Refusal {
 }
 
 impl Refusal {
-    // It, unless a test passes.
+    // This refusal, unless a test passes.
     pub fn unless(self, passes: bool) -> Result<(), Refusal>
         ensures { result ≡ cond passes (Ok tt) (Err self) }
     {

@@ -42,7 +42,7 @@ pub struct Opened {
     pub n: u32,
 }
 
-// The answer of Refresh and Update: the refusal's number, 0 for none, and how many records from the future were skipped, 0 after a refusal.
+// The answer of Refresh and Update, its own struct since C names its field: the refusal's number, 0 for none, and the records from the future skipped.
 #[repr(C)]
 #[derive(Clone, Copy)]
 pub struct Refreshed {

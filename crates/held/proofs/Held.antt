@@ -1,4 +1,4 @@
--- What is read off Fill's table is Definition 1.
+-- The laws of what boards hold: over Fill's table it is Definition 1, and what is read off any vectors.
 use mathlib.Core.Path.{◌≡◌, refl, ap, sym, ◌∙◌}
 use mathlib.Core.Bool.{Bool, true, false, and-eq-true_iff}
 use mir.Val.{bool_byte}

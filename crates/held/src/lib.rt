@@ -11,7 +11,7 @@ ghost use Rattle.held.specs.Held.{held, own, fits, heard};
 use cube::Node;
 use report::Report;
 
-// Bit k of a vector, as 1 or 0: bit 0, which is 1, is put below the others. A k from 32 on is taken as k % 32.
+// Bit k of a vector, as the number 1 or 0 that Fill adds up: bit 0, which is 1, is put below the others. A k from 32 on is taken as k % 32.
 pub fn bit_of(word: u16, k: u32) -> u32
     ensures digit { result ≡ one (held word (k % 32)) }
     ensures small { result ≤ 1 }
@@ -81,7 +81,7 @@ fn fits(report: &Report, a: Node) -> bool
     report.n <= 10 && (report.links.len() == 1 << report.n) & report.has_node(a)
 }
 
-// The mask of the dimensions along which bit k is registered at a; 0 where that can't be read.
+// The mask of the dimensions along which bit k is registered at a; where that can't be read the empty one, as `heard` says.
 pub fn heard(report: &Report, vectors: &[u16], a: Node, k: u32) -> u16
     ensures { result ≡ heard report.now.n report.now.links.now vectors.now a.0 k }
 {
@@ -96,7 +96,7 @@ pub fn heard(report: &Report, vectors: &[u16], a: Node, k: u32) -> u16
     mask_of(report.n, |i| registered(links, vectors, a, i, k))
 }
 
-// The mask of the faulty links of node a; 0 where that can't be read.
+// The mask of the faulty links of node a; where that can't be read the empty one.
 pub fn faulty_links(report: &Report, a: Node) -> u16
     ensures { let links = report.now.links.now in
         result ≡ cond (fits report.now.n links a.0) (pack (cut links a.0) report.now.n) 0 }

@@ -47,6 +47,10 @@ module _ (R : Report) (vecs picks path : List ℕ) (s d : ℕ) where
       later (dimension R.dim) 1 _ _
       (λ t1. later (all_sized R vecs && room_for) 2 _ _ (λ t2. ap (cond (not (narrow R.dim R.links)) 3) (rw (t1, ((and-eq-true_iff (all_sized R vecs) room_for).0 t2).0))))
 
+  -- so what is the number of these tests is that of Journey's list
+  pub by_chain : (number : ℕ) → number ≡ chain → number ≡ journey_refusal R vecs picks path s d
+  by_chain number e = e ∙ as_decide
+
   pub clear_of_none : journey_refusal R vecs picks path s d ≡ 0 → Clear R vecs picks path s d
   unfolding fill_refusal
   clear_of_none e =

@@ -79,6 +79,6 @@ path_after R vecs picks path s d = path_by (journey R vecs picks path s d) s pat
 abbrev pub told_of : Trip → Choice × ℕ
 told_of t = (chosen t.kind, t.hops)
 
--- what each case of the answer says
+-- what the answer says
 abbrev pub said : Result Trip Refusal → Reply (Choice × ℕ)
 said = saying told_of

@@ -47,62 +47,61 @@ impl Message {
     }
 }
 
-// The hops after the first, to the end: each board goes into the path behind those before it.
-fn onward(
-    report: &Report,
-    vectors: &[u16],
-    picks: &[u8],
-    path: &mut [u16],
-    first: Message,
-    promised: usize,
-)
-    requires { let R = reported report.now in
-        (R.dim ≤ 10) × (1 ≤ promised) × (promised ≤ length picks.now) × (promised < length path.old)
-        × (vectors.now ≡ vectors_of R) × Walks R promised 1 first }
-    ensures { let R = reported report.now in
-        let old = path.old in
-        path.new ≡ take 2 old ++ ahead R picks.now 1 first ++ drop (promised + 1) old }
-{
-    let mut m = first;
-    for j in 1..promised {
-        // On a walk every board short of the end offers something.
-        let answer = routing::hop(report, vectors, m.node, m.nav).unwrap();
-        let mask = answer.unwrap();
-        m = m.follow(report.n, mask, picks[j]);
-        path[j + 1] = m.node.0;
-    }
+// What a message goes by once its source is accepted: the report, the vectors that Fill wrote from it, and the picks.
+#[derive(Drop)]
+struct Way<'a> {
+    report: &'a Report<'a>,
+    vectors: &'a [u16],
+    picks: &'a [u8],
+    ghost small: { report.now.n ≤ 10 },
+    ghost filled: { vectors.now ≡ vectors_of (reported report.now) },
+    ghost chosen: { report.now.n + 1 ≤ length picks.now },
 }
 
-// The way from an accepted source to the end, written into the path; the first hop is by Decide's offer. Gives the hops promised, which are those made.
-fn depart(
-    report: &Report,
-    vectors: &[u16],
-    picks: &[u8],
-    path: &mut [u16],
-    s: Node,
-    d: Node,
-    kind: Kind,
-) -> u32
-    requires { let R = reported report.now in
-        (R.dim ≤ 10) × (R.dim + 1 ≤ length picks.now) × (R.dim + 2 ≤ length path.old) × (vectors.now ≡ vectors_of R)
-        × (decide R (vectors_of R) s.0 d.0 ≡ accepted (chosen kind)) }
-    ensures { let R = reported report.now in
-        let way = leave R picks.now s.0 d.0 (chosen kind) in
-        (result ≡ length way.after) × (path.new ≡ path_by (accepted way) s.0 path.old) }
-{
-    let offer = kind.offer();
-    path[0] = s.0;
-    if offer.hops != 0 {
-        let start = Message {
-            node: s,
-            nav: s.to(d),
-        };
-        let first = start.follow(report.n, offer.mask, picks[0]);
-        path[1] = first.node.0;
-        let promised = offer.hops as usize;
-        onward(report, vectors, picks, path, first, promised);
+impl Way<'_> {
+    // The hops after the first, to the end: each board goes into the path behind those before it.
+    fn onward(&self, path: &mut [u16], first: Message, promised: usize)
+        requires some { 1 ≤ promised }
+        requires chosen { promised ≤ length self.now.picks.now }
+        requires room { promised < length path.old }
+        requires walks { Walks (reported self.now.report.now) promised 1 first }
+        ensures { let R = reported self.now.report.now in
+            let old = path.old in
+            path.new ≡ take 2 old ++ ahead R self.now.picks.now 1 first ++ drop (promised + 1) old }
+    {
+        let mut m = first;
+        // By numbers: the board after hop j stands behind the place of its pick, and a zip of two ranges would hide that.
+        for j in 1..promised {
+            // On a walk every board short of the end offers something.
+            let answer = routing::hop(self.report, self.vectors, m.node, m.nav).unwrap();
+            let mask = answer.unwrap();
+            m = m.follow(self.report.n, mask, self.picks[j]);
+            path[j + 1] = m.node.0;
+        }
     }
-    offer.hops
+
+    // From an accepted source to the end, written into the path; the first hop is by Decide's offer. Gives the hops promised, which are those made.
+    fn depart(&self, path: &mut [u16], s: Node, d: Node, kind: Kind) -> u32
+        requires room { self.now.report.now.n + 2 ≤ length path.old }
+        requires accepts { let R = reported self.now.report.now in
+            decide R (vectors_of R) s.0 d.0 ≡ accepted (chosen kind) }
+        ensures { let R = reported self.now.report.now in
+            let way = leave R self.now.picks.now s.0 d.0 (chosen kind) in
+            (result ≡ length way.after) × (path.new ≡ path_by (accepted way) s.0 path.old) }
+    {
+        let offer = kind.offer();
+        path[0] = s.0;
+        if offer.hops != 0 {
+            let start = Message {
+                node: s,
+                nav: s.to(d),
+            };
+            let first = start.follow(self.report.n, offer.mask, self.picks[0]);
+            path[1] = first.node.0;
+            self.onward(path, first, offer.hops as usize);
+        }
+        offer.hops
+    }
 }
 
 // Whether there are picks for n + 1 hops and room for n + 2 path words.
@@ -114,6 +113,7 @@ fn roomy(n: u32, picks: &[u8], path: &[u16]) -> bool
 }
 
 // What is tested before filling. From 4 on its tests are Decide's.
+#[tactic(auto, using(crate::proofs::Refusals::by_chain, cube::proofs::Refusals::tests_in_turn))]
 fn tested(
     report: &Report,
     vectors: &[u16],
@@ -152,7 +152,12 @@ pub fn journey(
     // What Fill refuses is refused above.
     vectors::fill(report, vectors).unwrap();
     let kind = routing::decide(report, vectors, s, d)?;
-    let hops = depart(report, vectors, picks, path, s, d, kind);
+    let way = Way {
+        report,
+        vectors: &*vectors,
+        picks,
+    };
+    let hops = way.depart(path, s, d, kind);
     Ok(Trip { kind, hops })
 }
 

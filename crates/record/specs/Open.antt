@@ -59,6 +59,6 @@ unfoldable pub links_opened : List ℕ → List ℕ → List ℕ → List ℕ
 unfolding open_refusal kept links_in
 links_opened bytes status links = kept (open_refusal bytes status links) (links_in bytes ++ drop (2 ^ n_in bytes) links) links
 
--- what each case of the answer says
+-- what the answer says
 abbrev pub said : Result ℕ Refusal → Reply ℕ
 said = saying (λ n. n)

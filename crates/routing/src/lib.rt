@@ -34,9 +34,10 @@ pub enum Kind {
 }
 
 impl Kind {
-    // Its offer; at home nothing is offered and no hop is made.
+    // Its offer; at home an empty one of no hops, as it crosses to C.
     pub fn offer(self) -> Offer
-        ensures { (result.mask ≡ mask_of (deciding.chosen self)) × (result.hops ≡ hops_of (deciding.chosen self)) }
+        ensures mask { result.mask ≡ mask_of (deciding.chosen self) }
+        ensures hops { result.hops ≡ hops_of (deciding.chosen self) }
     {
         match self {
             Kind::Home => Offer { mask: 0, hops: 0 },

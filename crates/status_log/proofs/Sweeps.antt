@@ -1,90 +1,68 @@
--- The laws of a typed sweep number: digit by digit.
-use mathlib.Core.Path.{◌≡◌, refl, sym, ap, ◌∙◌}
-use mathlib.Core.Bool.{true, false, and-false}
+-- The laws of a typed sweep number: `parse` reads it, where all its bytes are digits.
+use mathlib.Core.Path.{◌≡◌, refl, ap, ◌∙◌}
+use mathlib.Core.Bool.{Bool, true, false, ◌&&◌, and-false}
 use mathlib.Core.List.{List, [], ◌∷◌}
-use Prim.Native.Nat.{ℕ, ◌+◌, ◌-◌, ◌*◌, ◌≤◌, ◌<◌}
-use native.Mathlib.Numerals.{add-one}
+use Prim.Native.Nat.{ℕ, ◌^◌, ◌<◌}
 use native.Mathlib.Omega.{arith}
-use borrow.Author.Tests.{le-leb, lt-leb, lt-ltb, le-ltb}
-use lib.ListN.{length, get_or, drop, drop_of_length-le}
-use lib.Seq.{drop-cons}
-use Rattle.status_log.specs.Sweep.{digits, value, sweep_in}
-use Rattle.std.specs.Prelude.{Some, None}
+use borrow.Author.Tests.{lt-ltb, le-leb, ltb-true, leb-true}
+use lib.Dec.{leb, ltb}
+use lib.ListN.{length}
+use Rattle.std.proofs.Common.{rules, Bor}
+use Rattle.std.proofs.lemmas.Str.Parse.{IsNumeralModel, numerals_by_fold, parse_digits}
+use Rattle.std.proofs.lemmas.Fmt.{IsAscii-from_digits}
+use Rattle.std.proofs.lemmas.Str.{IsUtf8-from_ascii}
+use Rattle.std.specs.Prelude.{Result, Ok, Err, Some, None, cond}
 use Rattle.std.specs.Char.{is_ascii_digit}
+use Rattle.std.specs.List.{list_all}
+use Rattle.std.specs.Result.{OkIff, MatchResult, result_ok}
+use Rattle.std.specs.Str.{IsUtf8}
+use Rattle.std.specs.Str.Parse.{ParsesUnsigned}
+use Rattle.status_log.specs.Sweep.{digits, value, sweep_in}
 
--- what digits write is no less than what those before them wrote
-value_le : (x : ℕ) (bs : List ℕ) → x ≤ value x bs
-unfolding value
-value_le x [] = omega arith
-value_le x (b ∷ bs) = omega (arith, value_le (10 * x + (b - 48)) bs)
+-- digits and their number are std's
+own : IsNumeralModel (λ ds. digits ds ≡ true) (value 0)
+unfolding digits value
+own = numerals_by_fold _ (search rules) value (search rules)
 
--- the byte at i
-module _ (text : List ℕ) (i : ℕ) (inside : i < length text) where
-  decimal_next : (x y : ℕ) → y ≡ 10 * x + (get_or text i 0 - 48) → value y (drop (i + 1) text) ≡ value x (drop i text)
-  unfolding value
-  decimal_next x y e = rw (e, add-one, drop-cons text i 0 inside)
+pub digits_all : (text : List ℕ) → list_all is_ascii_digit text ≡ digits text
+unfolding digits
+digits_all [] = refl
+digits_all (b ∷ bs) = ap (λ t. is_ascii_digit b && t) (digits_all bs)
 
-  digits_next : is_ascii_digit (get_or text i 0) ≡ true → digits (drop (i + 1) text) ≡ digits (drop i text)
-  unfolding digits
-  digits_next e = rw (add-one, drop-cons text i 0 inside, e)
-
-  not_digits : is_ascii_digit (get_or text i 0) ≡ false → digits (drop i text) ≡ false
-  unfolding digits
-  not_digits e = rw (drop-cons text i 0 inside, e)
-
--- which texts name none
-pub empty_none : (text : List ℕ) → length text ≡ 0 → None ≡ sweep_in text
-unfolding sweep_in
-empty_none text e = rw (le-ltb 0 (length text) (omega arith))
-
-none_by_digits : (text : List ℕ) → digits text ≡ false → None ≡ sweep_in text
+-- a text with another byte names none
+pub none_by_digits : (text : List ℕ) → digits text ≡ false → None ≡ sweep_in text
 unfolding sweep_in
 none_by_digits text e = rw (e, and-false)
 
-none_by_size : (text : List ℕ) → 65535 < value 0 text → None ≡ sweep_in text
+-- a text that writes no number, or one above 65,535, names none
+none_by_limits : (text : List ℕ) → ¬ ((0 < length text) × (value 0 text < 2 ^ 16)) → None ≡ sweep_in text
 unfolding sweep_in
-none_by_size text h = rw (lt-leb (value 0 text) 65535 h, and-false, and-false)
+none_by_limits text out = go (ltb 0 (length text)) (leb (value 0 text) 65535) refl refl
+  where
+    go : (some small : Bool) → ltb 0 (length text) ≡ some → leb (value 0 text) 65535 ≡ small → None ≡ cond (ltb 0 (length text) && (digits text && leb (value 0 text) 65535)) (Some (value 0 text)) None
+    go false small a b = rw a refl
+    go true false a b = rw (b, and-false, and-false) refl
+    go true true a b = absurd (out (ltb-true 0 (length text) a, omega (arith, leb-true (value 0 text) 65535 b)))
 
--- the bytes before i are digits that write x
-pub record Read (text : List ℕ) (i x : ℕ) : Type 0 where
-  pub inside : i ≤ length text
-  pub small : x ≤ 65535
-  pub number : value x (drop i text) ≡ value 0 text
-  pub all : digits (drop i text) ≡ digits text
+read_by_limits : {E : Type 0} (text : List ℕ) (r : Result ℕ E) → digits text ≡ true → OkIff r ((0 < length text) × (value 0 text < 2 ^ 16)) (value 0 text) → result_ok r ≡ sweep_in text
+unfolding sweep_in
+read_by_limits text (Ok x) all it = rw (it.1, all, lt-ltb 0 (length text) it.0.0, le-leb (value 0 text) 65535 (omega (arith, it.0.1))) refl
+read_by_limits text (Err e) all it = none_by_limits text it
 
-pub read_none : (text : List ℕ) → Read text 0 0
-read_none text = record { inside = omega arith; small = omega arith; number = refl; all = refl }
+module _ (text : List ℕ) (all : digits text ≡ true) where
+  -- digits are a text
+  pub digits_text : IsUtf8 text
+  digits_text = IsUtf8-from_ascii text (IsAscii-from_digits text (own.to text all))
 
-module _ (text : List ℕ) (i x : ℕ) (read : Read text i x) (inside : i < length text) where
-  pub other_none : is_ascii_digit (get_or text i 0) ≡ false → None ≡ sweep_in text
-  other_none e = none_by_digits text (sym read.all ∙ not_digits text i inside e)
+  -- what `parse` answers is the sweep that digits name
+  pub parsed : {E : Type 0} (r : Result ℕ E) → ParsesUnsigned 16 10 text r → result_ok r ≡ sweep_in text
+  parsed r h = read_by_limits text r all (parse_digits own 16 text r h all)
 
-  pub large_none : (y : ℕ) → y ≡ 10 * x + (get_or text i 0 - 48) → 65535 < y → None ≡ sweep_in text
-  large_none y e h =
-      none_by_size text (omega (arith, value_le y (drop (i + 1) text), decimal_next text i inside x y e ∙ read.number))
+  -- so `from_utf8` takes them
+  pub never_refused : {E : Type 0} (X : E → Type 0) (r : Result (Bor (List ℕ)) E) → MatchResult r (λ t. (t.now ≡ text) × IsUtf8 text) (λ e. ¬ IsUtf8 text × X e) → None ≡ result_ok r → ⊥
+  never_refused X (Ok t) it e = absurd (let z : ◌≡◌ {A = ℕ} 0 1 = cc in omega arith)
+  never_refused X (Err d) it e = it.0 digits_text
 
-  pub read_next : (y : ℕ) → y ≡ 10 * x + (get_or text i 0 - 48) → y ≤ 65535 → is_ascii_digit (get_or text i 0) ≡ true → Read text (i + 1) y
-  read_next y e small digit =
-      record {
-        inside = omega arith;
-        small = small;
-        number = decimal_next text i inside x y e ∙ read.number;
-        all = digits_next text i inside digit ∙ read.all;
-      }
-
--- all of them
-module _ (text : List ℕ) (i x : ℕ) (read : Read text i x) (end : length text ≤ i) where
-  rest : drop i text ≡ []
-  rest = drop_of_length-le text end
-
-  written : value 0 text ≡ x
-  unfolding value
-  written = sym read.number ∙ ap (value x) rest
-
-  only_digits : digits text ≡ true
-  unfolding digits
-  only_digits = sym read.all ∙ ap digits rest
-
-  pub read_all : 0 < length text → Some x ≡ sweep_in text
-  unfolding sweep_in
-  read_all some = rw (lt-ltb 0 (length text) some, only_digits, written, le-leb x 65535 read.small)
+  pub same_text : {E : Type 0} (X : E → Type 0) (r : Result (Bor (List ℕ)) E) (t : Bor (List ℕ)) → MatchResult r (λ t. (t.now ≡ text) × IsUtf8 text) (λ e. ¬ IsUtf8 text × X e) → Some t ≡ result_ok r → t.now ≡ text
+  same_text X (Ok u) t it e = let same : t ≡ u = cc in ap (λ x. x.now) same ∙ it.0
+  same_text X (Err d) t it e = absurd (let z : ◌≡◌ {A = ℕ} 0 1 = cc in omega arith)

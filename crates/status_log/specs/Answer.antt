@@ -1,4 +1,4 @@
--- What each case of Refresh's and Update's answer says.
+-- What Refresh and Update answer.
 use Rattle.std.specs.Prelude.{ℕ, Result}
 use Rattle.cube.specs.Reply.{Reply}
 use Rattle.cube.specs.Refusals.{saying}

@@ -1,7 +1,7 @@
 -- A sweep number as a person types it.
 use Rattle.std.specs.Prelude.{ℕ, ◌+◌, ◌-◌, ◌*◌, Bool, true, ◌&&◌, cond, List, [], ◌∷◌, leb, ltb, length, Option, Some, None}
 
--- every byte is a value digit
+-- every byte is a decimal digit
 unfoldable pub digits : List ℕ → Bool
 digits [] = true
 digits (b ∷ bs) = (leb 48 b && leb b 57) && digits bs

@@ -12,6 +12,7 @@ ghost use Rattle.status_log.specs.Sweep.{sweep_in};
 
 use cube::Refusal;
 use record::word_at;
+use std::str;
 
 // The first record's refusal that has one; a record cut short at the end has one.
 fn check_all(log: &[u8], n: u32) -> Result<(), Refusal>
@@ -24,7 +25,7 @@ fn check_all(log: &[u8], n: u32) -> Result<(), Refusal>
 }
 
 // What is tested before anything is written.
-#[tactic(auto, using(cube::proofs::Refusals::tests_in_turn), unfolding(log_rules::specs::Refresh::log_refusal, cube::specs::Reply::refusal, report::specs::Report::sized))]
+#[tactic(auto, using(crate::proofs::Refusals::log_in_turn), unfolding(report::specs::Report::sized))]
 fn tested(n: u32, log: &[u8], status: &[u8]) -> Result<(), Refusal>
     ensures { refused_by result ≡ log_refusal n log.now status.now }
 {
@@ -60,7 +61,7 @@ fn put_all(log: &[u8], sweep: u16, status: &mut [u8]) -> usize
 }
 
 // Makes the status bytes of all 2^n nodes from a log, and answers how many of its records are from the future.
-#[tactic(auto, using(cube::proofs::Refusals::refusal_or_answer, log_rules::proofs::Updates::sound_none, log_rules::proofs::Updates::refresh_done), unfolding(log_rules::specs::Refresh::refreshed, log_rules::specs::Refresh::status_after))]
+#[tactic(auto, using(crate::proofs::Refusals::log_answered), unfolding(log_rules::specs::Refresh::refreshed, log_rules::specs::Refresh::status_after))]
 pub fn refresh(n: u32, sweep: u16, log: &[u8], status: &mut [u8]) -> Result<usize, Refusal>
     ensures answer { said result ≡ refreshed n sweep log.now status.old }
     ensures boards { status.new ≡ status_after n sweep log.now status.old }
@@ -71,7 +72,7 @@ pub fn refresh(n: u32, sweep: u16, log: &[u8], status: &mut [u8]) -> Result<usiz
 }
 
 // Refresh for a log that comes in parts of whole records: over status bytes that are all 0 before the first part.
-#[tactic(auto, using(cube::proofs::Refusals::refusal_or_answer, log_rules::proofs::Updates::sound_none), unfolding(log_rules::specs::Refresh::refreshed, log_rules::specs::Refresh::update_after))]
+#[tactic(auto, using(crate::proofs::Refusals::log_answered), unfolding(log_rules::specs::Refresh::refreshed, log_rules::specs::Refresh::update_after))]
 pub fn update(n: u32, sweep: u16, part: &[u8], status: &mut [u8]) -> Result<usize, Refusal>
     ensures answer { said result ≡ refreshed n sweep part.now status.old }
     ensures boards { status.new ≡ update_after n sweep part.now status.old }
@@ -84,17 +85,10 @@ pub fn update(n: u32, sweep: u16, part: &[u8], status: &mut [u8]) -> Result<usiz
 pub fn sweep_of(text: &[u8]) -> Option<u16>
     ensures { result ≡ sweep_in text.now }
 {
-    if text.is_empty() {
+    if !text.iter().all(|byte| byte.is_ascii_digit()) {
         return None;
     }
-    let mut x: u16 = 0;
-    for byte in text {
-        if !byte.is_ascii_digit() {
-            return None;
-        }
-        x = x.checked_mul(10)?.checked_add(u16::from(*byte - b'0'))?;
-    }
-    Some(x)
+    str::from_utf8(text).ok()?.parse().ok()
 }
 
 // For every input the contracts of `refresh` and `update` allow one answer; the status bytes are given by `status_after` and `update_after`.

@@ -26,6 +26,6 @@ unfoldable pub filled : Report → List ℕ → List ℕ
 unfolding fill_refusal kept cube vectors
 filled R out = kept (fill_refusal R out) (vectors_of R) out
 
--- what each case of the answer says
+-- what the answer says
 abbrev pub said : Result (Unit {0}) Refusal → Reply (Unit {0})
 said = saying (λ _. tt)

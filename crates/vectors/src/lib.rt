@@ -48,7 +48,7 @@ struct Seen<'a> {
     ghost digits: { Digits bytes.now },
 }
 
-// That a < 2^n stands in three of these contracts: a type for it, beside Node, would be no plainer.
+// That a < 2^n stands in three of these contracts: a type for it would have to be made, and this proved, at each turn of the loop in `round`.
 impl Seen<'_> {
     ghost use Rattle.vectors.specs.Seen.{seen};
 

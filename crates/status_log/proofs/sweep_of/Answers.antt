@@ -1,35 +1,31 @@
--- `status_log::sweep_of` meets its contract.
-use mathlib.Core.Path.{refl, sym, ◌∙◌}
-use native.Mathlib.Omega.{arith}
-use Rattle.std.proofs.Common.{rules}
-use Rattle.status_log.proofs.Sweeps.{read_none, empty_none, other_none, large_none, read_next, read_all}
+-- `status_log::sweep_of` meets its contract: digits are a text, and `parse` reads it.
+use mathlib.Core.Path.{◌≡◌, sym, ◌∙◌}
+use mathlib.Core.Bool.{true}
+use Rattle.std.proofs.Common.{rules, tests}
+use Rattle.std.proofs.lemmas.Iterator.{YieldsList-from_slice}
+use Rattle.std.proofs.lemmas.Iterator.Search.{all_from_yields_List}
+use Rattle.std.specs.Char.{is_ascii_digit}
+use Rattle.status_log.specs.Sweep.{digits}
+use Rattle.status_log.proofs.Sweeps.{digits_all, none_by_digits, never_refused, same_text, parsed}
 use Rattle.status_log.proofs.sweep_of.Goals as goal
+use Rattle.status_log.proofs.sweep_of.Goals.{After-all}
 
-pub returns-then-is_empty : goal.returns-then-is_empty
-returns-then-is_empty c = search (rules, empty_none c.args.text.now)
+all_digits : (c : After-all) → c.all.result ≡ digits c.args.text.now
+all_digits c =
+    all_from_yields_List is_ascii_digit _ _ c.all.result c.all.ensures.ran (YieldsList-from_slice c.args.text.now cc) (λ x b q k. search (rules, tests))
+    ∙ digits_all c.args.text.now
 
-pub loop-byte-init : goal.loop-byte-init
-loop-byte-init c = read_none _
+pub returns-then-not-all : goal.returns-then-not-all
+returns-then-not-all c = none_by_digits c.args.text.now (sym (all_digits (goal.at.returns-then-not-all c).After-all) ∙ c.if-not-all.true)
 
-pub returns-then-not-is_ascii_digit : goal.returns-then-not-is_ascii_digit
-returns-then-not-is_ascii_digit c = other_none _ _ _ c.loop-byte.invariant (omega arith) (sym c.is_ascii_digit.ensures.value ∙ c.if-not-is_ascii_digit.true)
-
-pub returns-in_err-checked_mul : goal.returns-in_err-checked_mul
-returns-in_err-checked_mul c =
-    rw c.from_residual.ensures (large_none _ _ _ c.loop-byte.invariant (omega arith) _ refl (omega (arith, c.in_err-checked_mul.ensures)))
-
-pub returns-in_err-x : goal.returns-in_err-x
-returns-in_err-x c =
-    rw c.from_residual-in_err-x.ensures
-    (large_none _ _ _ c.loop-byte.invariant (omega arith) _ refl
-    (omega (arith, c.in_err-x.ensures, c.in_ok-checked_mul.ensures.1, c.from.ensures)))
-
-pub loop-byte-preserved : goal.loop-byte-preserved
-loop-byte-preserved c =
-    read_next _ _ _ c.loop-byte.invariant (omega arith) _
-    (omega (arith, c.in_ok-x.ensures.1, c.in_ok-checked_mul.ensures.1, c.from.ensures))
-    (omega (arith, c.in_ok-x.ensures.0, c.in_ok-x.ensures.1))
-    (sym c.is_ascii_digit.ensures.value ∙ c.if-not-is_ascii_digit.false)
+pub returns-in_err-ok : goal.returns-in_err-ok
+returns-in_err-ok c =
+    let all : digits c.args.text.now ≡ true = sym (all_digits (goal.at.returns-in_err-ok c).After-all) ∙ c.if-not-all.false in
+    absurd (never_refused c.args.text.now all _ c.from_utf8.result c.from_utf8.ensures.cases (sym (c.in_err-ok.was) ∙ c.ok.ensures.value))
 
 pub returns : goal.returns
-returns c = search (rules, read_all _ _ _ c.loop-byte.invariant (omega arith))
+returns c =
+    let text = c.args.text.now in
+    let all : digits text ≡ true = sym (all_digits (goal.at.returns c).After-all) ∙ c.if-not-all.false in
+    let same = same_text text all _ c.from_utf8.result _ c.from_utf8.ensures.cases (sym (c.in_ok-ok.was) ∙ c.ok.ensures.value) in
+    c.ok-2.ensures.value ∙ parsed text all c.parse.result (rw same at c.parse.ensures.value.0)
