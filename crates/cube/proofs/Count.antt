@@ -26,6 +26,11 @@ one_eqb zero h = refl
 one_eqb (suc zero) h = refl
 one_eqb (suc (suc d)) h = absurd (omega arith)
 
+-- and what it is of, by that test
+pub one_is : (b : Bool) → eqb (one b) 1 ≡ b
+one_is true = refl
+one_is false = refl
+
 -- a bit as a number, as the machine takes it
 pub one_bit : (x i : ℕ) → 1 ≤ i → x / 2 ^ (i - 1) % 2 ≡ one (bit x i)
 one_bit x i l = sym (one_eqb (x / 2 ^ (i - 1) % 2) (omega arith)) ∙ ap one (bit_shift x i l)

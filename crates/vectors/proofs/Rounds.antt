@@ -1,6 +1,6 @@
 -- The laws of Fill's rounds: in the midst of round k the boards below j have bits 1 to k + 1, the others bits 1 to k.
 use mathlib.Core.Path.{◌≡◌, refl, ap, ap₂, sym, ◌∙◌}
-use mathlib.Core.Bool.{Bool, true, false, ◌&&◌}
+use mathlib.Core.Bool.{Bool, true, ◌&&◌}
 use mathlib.Core.Logic.{⊎_elim}
 use mathlib.Core.List.{List, ◌++◌}
 use Rattle.std.proofs.lemmas.List.{take_at, take-replicate}
@@ -17,7 +17,7 @@ use Rattle.cube.specs.Count.{one, pack, count}
 use Rattle.cube.specs.Table.{table}
 use Rattle.std.proofs.lemmas.Bool.{cases_lt, cases_eq}
 use Rattle.cube.proofs.Bits.{flip_lt}
-use Rattle.cube.proofs.Count.{one_le, one_eqb, bit_pack, pack_lt, pack_cong, pack_zero, one_shift}
+use Rattle.cube.proofs.Count.{one_le, one_eqb, one_is, bit_pack, pack_lt, pack_cong, pack_zero, one_shift}
 use Rattle.cube.proofs.Table.{length_table, get_or_table, table_ext}
 use Rattle.report.specs.Health.{Cube}
 use Rattle.report.specs.Report.{Report, works, cut, cube, narrow}
@@ -99,11 +99,7 @@ digits_of vs k m a = ⊎_elim inside past (cases_lt a m)
 
 shown_of : (vs : List ℕ) (k m a : ℕ) → a < m → shown (table (digit vs k) m) a ≡ own vs k a
 unfolding shown digit
-shown_of vs k m a l = ap (λ (x : ℕ). eqb x 1) (get_or_table (digit vs k) m a l) ∙ back (own vs k a)
-  where
-    back : (b : Bool) → eqb (one b) 1 ≡ b
-    back true = refl
-    back false = refl
+shown_of vs k m a l = ap (λ (x : ℕ). eqb x 1) (get_or_table (digit vs k) m a l) ∙ one_is (own vs k a)
 
 -- after k rounds the own bit k is that of Definition 1
 after_own : (C : Cube) (k b : ℕ) → b < 2 ^ C.dim → own (after C k) k b ≡ safe C k b
