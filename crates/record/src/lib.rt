@@ -75,7 +75,9 @@ impl<'a> Parts<'a> {
         ensures { result ≡ narrow self.now.n (words_in self.now.links.now) }
     {
         let nodes = self.status.len();
-        self.links.iter().all(|pair| usize::from(u16::from_le_bytes(*pair)) < nodes)
+        self.links
+            .iter()
+            .all(|pair| usize::from(u16::from_le_bytes(*pair)) < nodes)
     }
 
     // Copies the link words to the places lent for them, one for each node.
