@@ -1,24 +1,69 @@
 -- The laws of link words as pairs of bytes.
 use mathlib.Core.Path.{◌≡◌, refl, sym, ap, ◌∙◌}
+use mathlib.Core.Bool.{Bool, false, ◌&&◌, and-true, and-false, and_assoc}
 use mathlib.Core.List.{List, [], ◌∷◌}
-use Prim.Native.Nat.{ℕ, zero, suc, ◌+◌, ◌*◌, ◌/◌, ◌^◌, ◌<◌}
+use mathlib.Core.Logic.{⊎_elim}
+use Prim.Native.Nat.{ℕ, zero, suc, ◌+◌, ◌*◌, ◌/◌, ◌^◌, ◌<◌, ◌≤◌}
 use native.Mathlib.Omega.{arith}
+use borrow.Author.Tests.{lt-ltb, le-ltb}
+use lib.Bits.{bit_or, or_lt, or_add_and, and_le_l, and_le_r}
+use lib.Pow.{pow_pos}
 use lib.Dec.{ltb}
 use lib.ListN.{length, get_or, drop}
 use lib.Seq.{get_or-take, get_or-drop}
-use Rattle.std.specs.List.{list_all}
+use Rattle.std.specs.List.{fold}
 use Rattle.std.specs.Simd.{first_chunks}
 use Rattle.cube.specs.Table.{table}
+use Rattle.cube.proofs.Order.{lt_or_ge}
 use Rattle.cube.proofs.Table.{written, table_ext, written_none, written_next, written_all}
 use Rattle.report.specs.Report.{narrow}
 use Rattle.record.specs.Open.{word, n_in, link_in, links_in}
 use Rattle.record.specs.Words.{words_in}
 
--- each pair below 2^n: the words are narrow
-pub narrow_words : (n : ℕ) (pairs : List (List ℕ)) → list_all (λ (pair : List ℕ). ltb (word pair 0) (2 ^ n)) pairs ≡ narrow n (words_in pairs)
+-- ---- one mask of all
+
+-- the bits that a list of pairs marks, those of m among them
+abbrev pub marking : ℕ → List ℕ → ℕ
+marking m pair = bit_or m (word pair 0)
+
+left_le : (a b : ℕ) → a ≤ bit_or a b
+left_le a b = omega (arith, or_add_and a b, and_le_r a b)
+
+right_le : (a b : ℕ) → b ≤ bit_or a b
+right_le a b = omega (arith, or_add_and a b, and_le_l a b)
+
+-- a mask is below 2^n if both parts are
+both_below : (n a b : ℕ) → ltb (bit_or a b) (2 ^ n) ≡ ltb a (2 ^ n) && ltb b (2 ^ n)
+both_below n a b = ⊎_elim below above (lt_or_ge (bit_or a b) (2 ^ n))
+  where
+    below : bit_or a b < 2 ^ n → ltb (bit_or a b) (2 ^ n) ≡ ltb a (2 ^ n) && ltb b (2 ^ n)
+    below h =
+        rw (lt-ltb (bit_or a b) (2 ^ n) h, lt-ltb a (2 ^ n) (omega (arith, left_le a b)), lt-ltb b (2 ^ n) (omega (arith, right_le a b)))
+        refl
+
+    beyond : b < 2 ^ n → 2 ^ n ≤ bit_or a b → ltb a (2 ^ n) ≡ false
+    beyond l h = ⊎_elim (λ k. absurd (let z = or_lt n a b k l in omega arith)) (λ k. le-ltb a (2 ^ n) k) (lt_or_ge a (2 ^ n))
+
+    above : 2 ^ n ≤ bit_or a b → ltb (bit_or a b) (2 ^ n) ≡ ltb a (2 ^ n) && ltb b (2 ^ n)
+    above h =
+        ⊎_elim
+        (λ l. rw (le-ltb (bit_or a b) (2 ^ n) h, beyond l h) refl)
+        (λ l. rw (le-ltb (bit_or a b) (2 ^ n) h, le-ltb b (2 ^ n) l, and-false) refl)
+        (lt_or_ge b (2 ^ n))
+
+from_mask : (n m : ℕ) (pairs : List (List ℕ)) → ltb (fold marking m pairs) (2 ^ n) ≡ ltb m (2 ^ n) && narrow n (words_in pairs)
 unfolding narrow words_in
-narrow_words n [] = refl
-narrow_words n (pair ∷ pairs) = rw (narrow_words n pairs) refl
+from_mask n m [] = sym (and-true (ltb m (2 ^ n)))
+from_mask n m (pair ∷ pairs) =
+    from_mask n (marking m pair) pairs
+    ∙ ap (λ (t : Bool). t && narrow n (words_in pairs)) (both_below n m (word pair 0))
+    ∙ and_assoc (ltb m (2 ^ n)) (ltb (word pair 0) (2 ^ n)) (narrow n (words_in pairs))
+
+-- the words are narrow if the mask of all is below 2^n, and only then
+pub narrow_mask : (n : ℕ) (pairs : List (List ℕ)) (m top : ℕ) → m ≡ fold marking 0 pairs → top ≡ 2 ^ n → ltb m top ≡ narrow n (words_in pairs)
+narrow_mask n pairs m top e f = rw (e, f) (from_mask n 0 pairs ∙ ap (λ (t : Bool). t && narrow n (words_in pairs)) (lt-ltb 0 (2 ^ n) (pow_pos n)))
+
+-- ---- the words as a table
 
 -- the number of a pair, by its place
 abbrev pub number_at : List (List ℕ) → ℕ → ℕ

@@ -70,12 +70,15 @@ impl<'a> Parts<'a> {
         Ok(parts)
     }
 
-    // Whether every link word is below the number of nodes.
+    // Whether every link word is below the number of nodes. For speed they are taken together, as one mask of what any marks.
     fn is_narrow(&self) -> bool
         ensures { result ≡ narrow self.now.n (words_in self.now.links.now) }
     {
-        let nodes = self.status.len();
-        self.links.iter().all(|pair| usize::from(u16::from_le_bytes(*pair)) < nodes)
+        let marked = self
+            .links
+            .iter()
+            .fold(0, |marked, pair| marked | u16::from_le_bytes(*pair));
+        usize::from(marked) < self.status.len()
     }
 
     // Copies the link words to the places lent for them, one for each node.

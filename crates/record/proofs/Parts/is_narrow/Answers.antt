@@ -1,19 +1,17 @@
 -- `record::Parts::is_narrow` meets its contract.
-use mathlib.Core.Path.{◌∙◌}
-use mathlib.Core.List.{List}
-use Prim.Native.Nat.{ℕ, ◌^◌}
-use lib.Dec.{ltb}
-use Rattle.std.proofs.Common.{rules, tests}
+use mathlib.Core.Path.{◌≡◌}
+use Rattle.std.specs.List.{fold}
+use Rattle.std.proofs.Common.{rules}
 use Rattle.std.proofs.lemmas.Iterator.{YieldsList-from_slice}
-use Rattle.std.proofs.lemmas.Iterator.Search.{all_from_yields_List}
+use Rattle.std.proofs.lemmas.Iterator.Consumers.{fold_from_yields_List}
 use Rattle.record.specs.Open.{word}
-use Rattle.record.proofs.Words.{narrow_words}
+use Rattle.record.proofs.Words.{marking, narrow_mask}
 use Rattle.record.proofs.Parts.is_narrow.Goals as goal
 
 pub returns : goal.returns
 unfolding word
 returns c =
     let parts = c.args.self.now in
-    let below = λ (pair : List ℕ). ltb (word pair 0) (2 ^ parts.n) in
-    all_from_yields_List below _ _ c.all.result c.all.ensures.ran (YieldsList-from_slice parts.links.now cc) (λ x b q k. search (rules, tests))
-    ∙ narrow_words parts.n parts.links.now
+    let mask : c.fold-marked.result ≡ fold marking 0 parts.links.now =
+    fold_from_yields_List _ marking 0 _ c.fold-marked.ensures.ran (YieldsList-from_slice parts.links.now cc) (λ m x b q k. search rules) in
+    narrow_mask parts.n parts.links.now c.from.result _ (search (rules, mask)) parts.status_sized
