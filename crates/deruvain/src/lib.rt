@@ -280,7 +280,7 @@ pub extern "C" fn deruvain_update(n: u32, sweep: u16, part: &[u8], status: &mut 
     Refreshed::from(status_log::update(n, sweep, part, status))
 }
 
-// Whether a record has room for these status bytes from its sixth byte on.
+// Whether a record has room for these status bytes from its sixth byte on. `record::restate` tests the same, and doesn't say.
 fn has_room(bytes: &[u8], status: &[u8]) -> bool
     ensures { result ≡ leb (5 + length status.now) (length bytes.now) }
 {

@@ -1,33 +1,7 @@
 // Lists the record on standard input.
 #![tactic(auto)]
 
-use program::{Failed, Why};
-use std::fmt;
-
-// What is said on standard error.
-#[derive(Clone, Copy)]
-enum Fault<'a> {
-    Input,
-    Output,
-    Refused(Why<'a>),
-}
-
-impl From<Failed> for Fault<'_> {
-    // Reading standard input failed.
-    fn from(_: Failed) -> Self {
-        Fault::Input
-    }
-}
-
-impl fmt::Display for Fault<'_> {
-    fn fmt<W: fmt::Write>(&self, f: &mut fmt::Formatter<W>) -> fmt::Result {
-        match self {
-            Fault::Input => write!(f, "standard input can't be read"),
-            Fault::Output => write!(f, "standard output can't be written"),
-            Fault::Refused(why) => write!(f, "{why}"),
-        }
-    }
-}
+use program::{Fault, Why};
 
 // Prints the listing of the bytes in one write, and gives why they are refused, where they are.
 fn list<'a>(rt: &HostRuntime, bytes: &'a [u8]) -> Result<(), Fault<'a>> {
@@ -36,7 +10,7 @@ fn list<'a>(rt: &HostRuntime, bytes: &'a [u8]) -> Result<(), Fault<'a>> {
     rt.stdout()
         .write_all(&out[..length])
         .map_err(|_| Fault::Output)?;
-    program::open(bytes).map_err(|refusal| Fault::Refused(Why { refusal, bytes }))?;
+    program::open(bytes).map_err(|refusal| Fault::Record(Why { refusal, bytes }))?;
     Ok(())
 }
 

@@ -6,6 +6,7 @@ ghost use Rattle.std.specs.Io.KnownBytes.{Consumes, IsAtEnd};
 ghost use Rattle.io.specs.Counts.{IsPrefixLen};
 ghost use Rattle.record.specs.Open.{said};
 ghost use Rattle.program.specs.Input.{came, answered};
+ghost use Rattle.program.specs.declared.Fault.TheVariants.{Input};
 
 use cube::Refusal;
 use record::word_at;
@@ -54,17 +55,6 @@ pub fn boards(n: u32) -> usize
     1 << n.min(10)
 }
 
-// The first node of a cube whose link word in a record marks a dimension above n.
-fn too_wide(bytes: &[u8], boards: usize) -> usize
-    requires { boards ≤ 1024 }
-{
-    let words = bytes.get(5 + boards..).unwrap_or(&[]);
-    words
-        .chunks(2)
-        .position(|word| boards <= word_at(word, 0) as usize)
-        .unwrap_or(boards)
-}
-
 // Why a record is refused: for which reason, and the record.
 #[derive(Clone, Copy)]
 pub struct Why<'a> {
@@ -72,63 +62,111 @@ pub struct Why<'a> {
     pub bytes: &'a [u8],
 }
 
-// Says which of Open's reasons to refuse a record by 10 holds first.
-fn malformed<W: fmt::Write>(f: &mut fmt::Formatter<W>, bytes: &[u8], boards: usize) -> fmt::Result
-    requires { boards ≤ 1024 }
-{
-    let came = bytes.len();
-    let told = word_at(bytes, 0);
-    let kind = word_at(bytes, 2);
-    if came == 0 {
-        write!(f, "no bytes came")
-    } else if came < 5 {
-        write!(f, "a record has at least 5 bytes, and {came} came")
-    } else if 4096 < came {
-        write!(
-            f,
-            "a record has at most 3077 bytes, and more than 4096 came"
-        )
-    } else if told as usize != came - 2 {
-        let after = came - 2;
-        write!(
-            f,
-            "the record's first two bytes announce {told} bytes after them, and {after} came"
-        )
-    } else if kind != 1 {
-        write!(
-            f,
-            "the record's kind, its third and fourth byte, is {kind}, and a report's is 1"
-        )
-    } else {
-        let size = 5 + 3 * boards;
-        write!(
-            f,
-            "a record of {boards} boards has {size} bytes, and {came} came"
-        )
+impl Why<'_> {
+    // The record's dimension n, its fifth byte.
+    fn dimension(&self) -> u32 {
+        u32::from(word_at(self.bytes, 4) % 256)
+    }
+
+    // How many boards its cube has.
+    fn boards(&self) -> usize
+        ensures { result ≤ 1024 }
+    {
+        boards(self.dimension())
+    }
+
+    // The first node whose link word marks a dimension above n.
+    fn too_wide(&self) -> Option<usize> {
+        let boards = self.boards();
+        let words = self.bytes.get(5 + boards..)?;
+        words
+            .chunks(2)
+            .position(|word| boards <= usize::from(word_at(word, 0)))
+    }
+
+    // Says which of Open's reasons to refuse a record by 10 holds first.
+    fn malformed<W: fmt::Write>(&self, f: &mut fmt::Formatter<W>) -> fmt::Result {
+        let bytes = self.bytes;
+        let came = bytes.len();
+        let told = word_at(bytes, 0);
+        let kind = word_at(bytes, 2);
+        if came == 0 {
+            write!(f, "no bytes came")
+        } else if came < 5 {
+            write!(f, "a record has at least 5 bytes, and {came} came")
+        } else if 4096 < came {
+            write!(
+                f,
+                "a record has at most 3077 bytes, and more than 4096 came"
+            )
+        } else if told as usize != came - 2 {
+            let after = came - 2;
+            write!(
+                f,
+                "the record's first two bytes announce {told} bytes after them, and {after} came"
+            )
+        } else if kind != 1 {
+            write!(
+                f,
+                "the record's kind, its third and fourth byte, is {kind}, and a report's is 1"
+            )
+        } else {
+            let boards = self.boards();
+            let size = 5 + 3 * boards;
+            write!(
+                f,
+                "a record of {boards} boards has {size} bytes, and {came} came"
+            )
+        }
     }
 }
 
 impl fmt::Display for Why<'_> {
-    // Says by which number the record is refused, what that means and where to look. The fifth byte is the dimension n.
+    // Says by which number the record is refused, what that means and where to look.
     fn fmt<W: fmt::Write>(&self, f: &mut fmt::Formatter<W>) -> fmt::Result {
-        let Why { refusal, bytes } = *self;
-        let n = word_at(bytes, 4) % 256;
-        let boards = boards(n as u32);
-        write!(f, "{refusal}: ")?;
-        match refusal {
+        let n = self.dimension();
+        write!(f, "{}: ", self.refusal)?;
+        match self.refusal {
             Refusal::Dimension => write!(
                 f,
                 "the record's dimension n, its fifth byte, is {n}, and n is from 1 to 10"
             ),
             Refusal::LinkWord => {
-                let node = too_wide(bytes, boards);
+                let node = self.too_wide().unwrap_or(self.boards());
                 write!(
                     f,
                     "the link word of node {node} marks a dimension above n = {n}"
                 )
             }
-            Refusal::Malformed => malformed(f, bytes, boards),
+            Refusal::Malformed => self.malformed(f),
             _ => write!(f, "the record is refused"),
+        }
+    }
+}
+
+// What a program over a record says on standard error.
+#[derive(Clone, Copy)]
+pub enum Fault<'a> {
+    Input,
+    Output,
+    Record(Why<'a>),
+}
+
+impl From<Failed> for Fault<'_> {
+    ghost from_gives = { λ failed fault. fault ≡ Input };
+
+    // Reading standard input failed.
+    fn from(_: Failed) -> Self {
+        Fault::Input
+    }
+}
+
+impl fmt::Display for Fault<'_> {
+    fn fmt<W: fmt::Write>(&self, f: &mut fmt::Formatter<W>) -> fmt::Result {
+        match self {
+            Fault::Input => write!(f, "standard input can't be read"),
+            Fault::Output => write!(f, "standard output can't be written"),
+            Fault::Record(why) => write!(f, "{why}"),
         }
     }
 }

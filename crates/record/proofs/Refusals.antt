@@ -11,6 +11,7 @@ use Rattle.cube.specs.Reply.{Reply, refused, accepted, refusal, unless, kept}
 use Rattle.cube.specs.Refusals.{number_in}
 use Rattle.cube.specs.declared.refusal.Refusal.{Refusal}
 use Rattle.cube.proofs.Reply.{passed, later, unless_none, unless_accepted, refused_accepted}
+use Rattle.cube.proofs.Refusals.{tests_in_turn, unless_refusal, refusal_or_answer}
 use Rattle.report.specs.Report.{dimension, narrow}
 use Rattle.report.proofs.Laws.{dimension_range}
 use Rattle.record.specs.Fields.{Fields, fields}
@@ -90,27 +91,32 @@ unfolding unless
 refusing zero x e h = absurd (refused_accepted _ _ h)
 refusing (suc m) x e h = cc
 
--- where nothing is refused, the fields are the answer
-pub given :
+-- where nothing is refused, the record's fields are the answer
+pub answering :
     (bytes status links : List ℕ) (n : ℕ) (boards words : List ℕ) →
     open_refusal bytes status links ≡ 0 →
     n ≡ n_in bytes →
     boards ≡ status_in bytes →
     words ≡ links_in bytes →
     ◌≡◌ {A = Reply Fields} (accepted (n, (boards, words))) (unless (open_refusal bytes status links) (accepted (fields bytes)))
-given bytes status links n boards words none e f g = rw (e, f, g) (sym (unless_none _ _ none))
+answering bytes status links n boards words none e f g = rw (e, f, g) (sym (unless_none _ _ none))
 
 -- what Open may count on where its tests give the parts
 pub reading :
     (bytes status links : List ℕ) (n : ℕ) (boards words : List ℕ) →
     accepted (n, (boards, words)) ≡ unless (open_refusal bytes status links) (accepted (fields bytes)) →
     (open_refusal bytes status links ≡ 0)
-    × ((n ≡ n_in bytes) × ((boards ≡ status_in bytes) × ((words ≡ links_in bytes) × ((2 ^ n_in bytes ≤ length status) × (2 ^ n_in bytes ≤ length links)))))
+    × ((n ≡ n_in bytes)
+    × ((boards ≡ status_in bytes)
+    × ((words ≡ links_in bytes)
+    × ((2 ^ n_in bytes ≤ length status)
+    × (2 ^ n_in bytes ≤ length links)))))
 reading bytes status links n boards words e =
     let read = unless_accepted _ _ _ (sym e) in
     let r = readable bytes status links read.0 in
     let same : ◌≡◌ {A = Fields} (fields bytes) (n, (boards, words)) = cc in
-    (read.0, (ap (λ (p : Fields). p.0) (sym same), (ap (λ (p : Fields). p.1.0) (sym same), (ap (λ (p : Fields). p.1.1) (sym same), (r.status_room, r.links_room)))))
+    let part = λ (F : Type 0) (f : Fields → F). ap f (sym same) in
+    (read.0, (part ℕ (λ p. p.0), (part (List ℕ) (λ p. p.1.0), (part (List ℕ) (λ p. p.1.1), (r.status_room, r.links_room)))))
 
 -- what Open answers and leaves behind
 module _ (bytes status links : List ℕ) where
@@ -130,3 +136,9 @@ module _ (bytes status links : List ℕ) where
       × (links_in bytes ++ drop (2 ^ n_in bytes) links ≡ links_opened bytes status links))
   unfolding opened unless status_opened links_opened kept
   after_reading e = rw e (refl, (refl, refl))
+
+-- what the check applies at the tests of a record
+pub ruleset record_tests = (tests_in_turn, unless_refusal, dimension_range)
+
+-- and at the exits of Open
+pub ruleset after_tests = (refusing, reading, refusal_or_answer)

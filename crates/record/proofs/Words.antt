@@ -1,6 +1,5 @@
 -- The laws of link words as pairs of bytes.
 use mathlib.Core.Path.{◌≡◌, refl, sym, ap, ◌∙◌}
-use mathlib.Core.Bool.{◌&&◌}
 use mathlib.Core.List.{List, [], ◌∷◌}
 use Prim.Native.Nat.{ℕ, zero, suc, ◌+◌, ◌*◌, ◌/◌, ◌^◌, ◌<◌}
 use native.Mathlib.Omega.{arith}
@@ -10,7 +9,7 @@ use lib.Seq.{get_or-take, get_or-drop}
 use Rattle.std.specs.List.{list_all}
 use Rattle.std.specs.Simd.{first_chunks}
 use Rattle.cube.specs.Table.{table}
-use Rattle.cube.proofs.Table.{written, table_ext, written_all}
+use Rattle.cube.proofs.Table.{written, table_ext, written_none, written_next, written_all}
 use Rattle.report.specs.Report.{narrow}
 use Rattle.record.specs.Open.{word, n_in, link_in, links_in}
 use Rattle.record.specs.Words.{words_in}
@@ -42,8 +41,16 @@ words_table pairs = table_ext (number_at pairs) (length pairs) (words_in pairs) 
 
 -- after the last store they are all there
 pub words_written :
-    (pairs : List (List ℕ)) (old new : List ℕ) (k : ℕ) → length old ≡ length pairs → k ≡ length old → new ≡ written (number_at pairs) old k → new ≡ words_in pairs
-words_written pairs old new k sized last e = written_all (number_at pairs) old new k last e ∙ ap (table (number_at pairs)) sized ∙ sym (words_table pairs)
+    (pairs : List (List ℕ)) (old new : List ℕ) (k : ℕ) →
+    length old ≡ length pairs →
+    k ≡ length old →
+    new ≡ written (number_at pairs) old k →
+    new ≡ words_in pairs
+words_written pairs old new k sized last e =
+    written_all (number_at pairs) old new k last e ∙ ap (table (number_at pairs)) sized ∙ sym (words_table pairs)
+
+-- what the check applies where words are stored in turn
+pub ruleset in_turn = (written_none, written_next)
 
 -- ---- the bytes in pairs
 
@@ -66,25 +73,30 @@ get_or_pairs (suc k) bytes (suc a) h =
     let e : 2 + 2 * a ≡ 2 * suc a = omega arith in
     get_or_pairs k (drop 2 bytes) a (omega arith) ∙ word_drop 2 bytes (2 * a) ∙ ap (word bytes) e
 
+-- a record with that many nodes
 module _ (bytes : List ℕ) (nodes : ℕ) (counted : nodes ≡ 2 ^ n_in bytes) where
-  link_there : (a : ℕ) → word (drop nodes (drop 5 bytes)) (2 * a) ≡ link_in bytes a
+  -- what follows its status bytes
+  abbrev after : List ℕ
+  after = drop nodes (drop 5 bytes)
+
+  link_there : (a : ℕ) → word after (2 * a) ≡ link_in bytes a
   unfolding link_in
   link_there a =
       let e : 5 + (nodes + 2 * a) ≡ 5 + 2 ^ n_in bytes + 2 * a = omega (arith, counted) in
       word_drop nodes (drop 5 bytes) (2 * a) ∙ word_drop 5 bytes (nodes + 2 * a) ∙ ap (word bytes) e
 
-  links_there : words_in (first_chunks 2 nodes (drop nodes (drop 5 bytes))) ≡ links_in bytes
+  links_there : words_in (first_chunks 2 nodes after) ≡ links_in bytes
   unfolding links_in
   links_there =
-      table_ext (link_in bytes) (2 ^ n_in bytes) (words_in (first_chunks 2 nodes (drop nodes (drop 5 bytes))))
-      (length_pairs nodes (drop nodes (drop 5 bytes)) ∙ counted)
-      (λ a h. get_or_pairs nodes (drop nodes (drop 5 bytes)) a (omega (arith, counted)) ∙ link_there a)
+      table_ext (link_in bytes) (2 ^ n_in bytes) (words_in (first_chunks 2 nodes after))
+      (length_pairs nodes after ∙ counted)
+      (λ a h. get_or_pairs nodes after a (omega (arith, counted)) ∙ link_there a)
 
-  -- the pairs of what follows a record's status bytes are its link words
+  -- in pairs it is the link words
   pub words_read :
       (words : List ℕ) (pairs : List (List ℕ)) →
       words ≡ drop nodes (drop 5 bytes) →
       length words / 2 ≡ nodes →
       pairs ≡ first_chunks 2 (length words / 2) words →
       words_in pairs ≡ links_in bytes
-  words_read words pairs after half e = ap words_in (e ∙ rw (half, after) refl) ∙ links_there
+  words_read words pairs same half e = ap words_in (e ∙ rw (half, same) refl) ∙ links_there

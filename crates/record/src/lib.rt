@@ -49,7 +49,7 @@ impl<'a> Parts<'a> {
     ghost use Rattle.record.specs.Parts.{parted};
 
     // The parts of a record. Its tests come first, those of the slices lent for it among them.
-    #[tactic(auto, using(cube::proofs::Refusals::tests_in_turn, cube::proofs::Refusals::unless_refusal, report::proofs::Laws::dimension_range), unfolding(crate::specs::Open::open_refusal))]
+    #[tactic(auto, using(crate::proofs::Refusals::record_tests), unfolding(crate::specs::Open::open_refusal))]
     fn of(bytes: &'a [u8], status: &[u8], links: &[u16]) -> Result<Parts<'a>, Refusal>
         ensures { saying parted result ≡ unless (open_refusal bytes.now status.now links.now) (accepted (fields bytes.now)) }
     {
@@ -79,7 +79,7 @@ impl<'a> Parts<'a> {
     }
 
     // Copies the link words to the places lent for them, one for each node.
-    #[tactic(auto, using(cube::proofs::Table::written_none, cube::proofs::Table::written_next), unfolding(crate::specs::Open::word))]
+    #[tactic(auto, using(crate::proofs::Words::in_turn), unfolding(crate::specs::Open::word))]
     fn write_links(&self, links: &mut [u16])
         requires { length links.old ≡ length self.now.links.now }
         ensures { links.new ≡ words_in self.now.links.now }
@@ -91,7 +91,7 @@ impl<'a> Parts<'a> {
 }
 
 // Reads a record: gives its n back, and writes its status bytes and link words into the first 2^n places of the lent slices.
-#[tactic(auto, using(crate::proofs::Refusals::refusing, crate::proofs::Refusals::reading, cube::proofs::Refusals::refusal_or_answer), unfolding(crate::specs::Open::opened, crate::specs::Open::status_opened, crate::specs::Open::links_opened))]
+#[tactic(auto, using(crate::proofs::Refusals::after_tests), unfolding(crate::specs::Open::opened, crate::specs::Open::status_opened, crate::specs::Open::links_opened))]
 pub fn open(bytes: &[u8], status: &mut [u8], links: &mut [u16]) -> Result<u32, Refusal>
     ensures answer { said result ≡ opened bytes.now status.old links.old }
     ensures boards { status.new ≡ status_opened bytes.now status.old links.old }

@@ -24,12 +24,11 @@ enum Fault<'a> {
     Sweep,
     LongName,
     NoName,
-    Input,
-    Output,
     Log,
     NotOpened(&'a str, io::Error),
-    Record(Why<'a>),
     LogRecord(LogWhy),
+    // What every program over a record may say.
+    Common(program::Fault<'a>),
 }
 
 // Why a log is refused: for which reason, in which of its records, and what is wrong with that.
@@ -77,17 +76,22 @@ impl fmt::Display for Fault<'_> {
             Fault::Sweep => write!(f, "the present sweep is a number from 0 to 65535"),
             Fault::LongName => write!(f, "the log's file name is too long"),
             Fault::NoName => write!(f, "the log's file name is empty"),
-            Fault::Input => write!(f, "standard input can't be read"),
-            Fault::Output => write!(f, "standard output can't be written"),
             Fault::Log => write!(f, "the log can't be read"),
             Fault::NotOpened(path, error) => {
                 let mut room = [0; 128];
                 let why = words(error, &mut room);
                 write!(f, "the log {path}: {why}")
             }
-            Fault::Record(why) => write!(f, "{why}"),
             Fault::LogRecord(why) => write!(f, "{why}"),
+            Fault::Common(fault) => write!(f, "{fault}"),
         }
+    }
+}
+
+impl<'a> From<program::Fault<'a>> for Fault<'a> {
+    // One of these.
+    fn from(fault: program::Fault<'a>) -> Self {
+        Fault::Common(fault)
     }
 }
 
@@ -118,8 +122,8 @@ impl fmt::Display for LogWhy {
 }
 
 impl Wrong {
-    // What is wrong with a record that is refused.
-    fn with(row: &[u8], refusal: Refusal, n: u32) -> Wrong {
+    // What is wrong with a log's record, which is refused for this reason.
+    fn of_record(row: &[u8], refusal: Refusal, n: u32) -> Wrong {
         match refusal {
             Refusal::LogRecord if row.len() < 8 => Wrong::Short(row.len()),
             Refusal::LogRecord => Wrong::Kind(word_at(row, 0), word_at(row, 2)),
@@ -140,13 +144,13 @@ impl LogWhy {
         LogWhy {
             refusal,
             which: before.saturating_add(at).saturating_add(1),
-            wrong: Wrong::with(row, refusal, n),
+            wrong: Wrong::of_record(row, refusal, n),
         }
     }
 }
 
 impl Reading {
-    // After one more part of whole records, unless it is the last.
+    // After one more part, of whole records, of which so many were skipped.
     fn after(self, part: &[u8], skipped: usize) -> Reading {
         Reading {
             records: self.records.saturating_add(part.len() / 8),
@@ -214,13 +218,15 @@ fn tell(rt: &HostRuntime, reading: Reading, sweep: u16, status: &[u8]) {
 fn refresh<'a>(rt: &HostRuntime, asked: &mut Asked, bytes: &'a mut [u8]) -> Result<(), Fault<'a>> {
     let n = match program::open(bytes) {
         Ok(n) => n,
-        Err(refusal) => return Err(Fault::Record(Why { refusal, bytes })),
+        Err(refusal) => return Err(program::Fault::Record(Why { refusal, bytes }).into()),
     };
     let mut space = [0; 1024];
     let status = &mut space[..boards(n)];
     let reading = asked.read(n, status)?;
     record::restate(bytes, status);
-    rt.stdout().write_all(bytes).map_err(|_| Fault::Output)?;
+    rt.stdout()
+        .write_all(bytes)
+        .map_err(|_| program::Fault::Output)?;
     tell(rt, reading, asked.sweep, status);
     Ok(())
 }
@@ -231,7 +237,7 @@ fn with_log<'a>(
     mut asked: Asked,
     room: &'a mut [u8; 4097],
 ) -> Result<(), Fault<'a>> {
-    let count = read_all(&mut rt.stdin(), room).map_err(|_| Fault::Input)?;
+    let count = read_all(&mut rt.stdin(), room).map_err(|_| program::Fault::Input)?;
     refresh(rt, &mut asked, &mut room[..count])
 }
 
@@ -239,7 +245,7 @@ fn with_log<'a>(
 fn open_log<'a>(rt: &HostRuntime, path: &'a str) -> Result<File, Fault<'a>> {
     match File::open(rt, path) {
         Err(error) => Err(Fault::NotOpened(path, error)),
-        Ok(log) if log.as_raw_fd() == rt.stdin().as_raw_fd() => Err(Fault::Input),
+        Ok(log) if log.as_raw_fd() == rt.stdin().as_raw_fd() => Err(program::Fault::Input.into()),
         Ok(log) => Ok(log),
     }
 }

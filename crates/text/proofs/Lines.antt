@@ -10,14 +10,14 @@ use lib.ListN.{length, get_or, take, drop, length-append, length-drop}
 use lib.Seq.{take_at, get_or-take, length-take-le}
 use Rattle.cube.specs.Count.{one}
 use Rattle.cube.specs.Reply.{accepted, refusal}
-use Rattle.cube.proofs.Reply.{kept_none}
+use Rattle.cube.proofs.Reply.{kept_none, unless_none}
 use Rattle.cube.proofs.Table.{length_table}
 use Rattle.report.specs.Class.{class_of}
 use Rattle.report.specs.Report.{Report, cube, dimension, sized, all_sized}
 use Rattle.report.specs.declared.Class.{Class}
 use Rattle.report.specs.declared.Class.TheVariants.{Silent, Working, Late, Down, Empty}
 use Rattle.safety.specs.Safety.{bits_of, vector, vectors}
-use Rattle.vectors.specs.Fill.{fill_refusal, filled}
+use Rattle.vectors.specs.Fill.{fill_refusal, fill, filled}
 use Rattle.held.specs.Held.{own}
 use Rattle.held.proofs.Held.{own_safe}
 use Rattle.lines.specs.Text.{spell, titled, joined}
@@ -80,6 +80,10 @@ module _ (R : Report) (fits : Fits R) (vs : List ℕ) where
         eq-eqb (length (take (2 ^ R.dim) vs)) (2 ^ R.dim) (length-take-le (2 ^ R.dim) vs h),
         fits.narrow_links,
       )
+
+  pub fill_accepts : (k : ℕ) → k ≡ 2 ^ R.dim → 2 ^ R.dim ≤ length vs → fill R (take k vs) ≡ accepted tt
+  unfolding fill
+  fill_accepts k e h = rw e (unless_none _ _ (report_fills h))
 
   -- what Fill leaves at the start of its room
   pub filled_first : (k : ℕ) (new : List ℕ) → k ≡ 2 ^ R.dim → 2 ^ R.dim ≤ length vs → new ≡ filled R (take k vs)

@@ -88,7 +88,7 @@ fn vectors_of(report: &Report) -> [u16; 1024]
 {
     let mut vectors = room();
     let nodes = report.status.len();
-    let _ = vectors::fill(report, &mut vectors[..nodes]);
+    vectors::fill(report, &mut vectors[..nodes]).unwrap();
     vectors
 }
 
@@ -104,6 +104,7 @@ fn put_cube(page: &mut Page, report: &Report)
 }
 
 // What Open reads of all of standard input; over 4,096 bytes are refused by 10.
+// The programs' `open` makes this test and call for the dimension alone; one function for both, with lent room, has two clauses more: no plainer.
 fn opened<'a>(
     bytes: &[u8],
     status: &'a mut [u8; 1024],

@@ -14,5 +14,6 @@ pub returns : goal.returns
 unfolding word
 returns c =
     let parts = c.args.self.now in
-    all_from_yields_List (λ (pair : List ℕ). ltb (word pair 0) (2 ^ parts.n)) _ _ c.all.result c.all.ensures.ran (YieldsList-from_slice parts.links.now cc) (λ x b q k. search (rules, tests))
+    let below = λ (pair : List ℕ). ltb (word pair 0) (2 ^ parts.n) in
+    all_from_yields_List below _ _ c.all.result c.all.ensures.ran (YieldsList-from_slice parts.links.now cc) (λ x b q k. search (rules, tests))
     ∙ narrow_words parts.n parts.links.now

@@ -4,4 +4,4 @@ use Rattle.record.proofs.Words.{words_written}
 use Rattle.record.proofs.Parts.write_links.Goals as goal
 
 pub returns : goal.returns
-returns c = words_written c.args.self.now.links.now c.args.links.now c.loop-a.links c.loop-a.a c.requires (omega arith) c.loop-a.invariant
+returns c = words_written _ _ _ _ c.requires (omega arith) c.loop-a.invariant
