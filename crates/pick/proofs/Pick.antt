@@ -10,6 +10,7 @@ use Rattle.cube.specs.Bits.{bit}
 use Rattle.cube.specs.Count.{ranked}
 use Rattle.cube.proofs.Bits.{bit_high}
 use Rattle.std.proofs.lemmas.Bool.{cases_lt}
+use Rattle.std.proofs.lemmas.Option.{none-some}
 use Rattle.cube.proofs.Count.{ranked_le, ranked_in, weight_below, weight_pos}
 use Rattle.pick.specs.Pick.{named, taken}
 
@@ -43,9 +44,9 @@ ranked_top mask r n h = ⊎_elim low high (cases_lt n 16)
 
 -- what a number names, and that 0 alone names nothing
 pub named_some : (t i : ℕ) → Some i ≡ named t → i ≡ t
-named_some zero i e = absurd (let z : ◌≡◌ {A = ℕ} 0 1 = cc in omega arith)
+named_some zero i e = absurd (none-some i (sym e))
 named_some (suc t) i e = cc
 
 pub named_none : (t : ℕ) → None ≡ named t → t ≡ 0
 named_none zero e = refl
-named_none (suc t) e = absurd (let z : ◌≡◌ {A = ℕ} 0 1 = cc in omega arith)
+named_none (suc t) e = absurd (none-some (suc t) e)

@@ -9,6 +9,7 @@ use Rattle.std.proofs.Common.{length-take-le}
 use lib.Pow.{pow_mono}
 use lib.Seq.{take_at}
 use Rattle.cube.specs.Reply.{Reply, refused, accepted}
+use Rattle.cube.proofs.Reply.{refused_accepted}
 use Rattle.report.specs.Report.{Report, report, cube}
 use Rattle.safety.specs.Safety.{bits_of}
 use Rattle.record.specs.Open.{n_in, status_in, links_in, open_refusal, opened, status_opened, links_opened}
@@ -54,7 +55,7 @@ read bytes n status links er es el = go (open_refusal bytes places places) refl
         })
     go (suc m) e =
         let after = after_refusal bytes places places (suc m) (sym e) (λ z. omega arith) in
-        absurd (let whole : accepted n ≡ refused (suc m) = er ∙ sym after.0 in let z : ◌≡◌ {A = ℕ} 0 1 = cc in omega arith)
+        absurd (refused_accepted (suc m) n (after.0 ∙ sym er))
 
 -- the text for over 4,096 bytes
 pub too_long : (bytes : List ℕ) → 4096 < length bytes → listing bytes ≡ listed (refused 10) places places
