@@ -1,3 +1,4 @@
+pub mod Exits
 pub mod Fields
 pub mod Refusals
 pub mod Restated

@@ -11,7 +11,7 @@ use Rattle.cube.specs.Reply.{Reply, refused, accepted, refusal, unless, kept}
 use Rattle.cube.specs.Refusals.{number_in}
 use Rattle.cube.specs.declared.refusal.Refusal.{Refusal}
 use Rattle.cube.proofs.Reply.{passed, later, unless_none, unless_accepted, refused_accepted}
-use Rattle.cube.proofs.Refusals.{tests_in_turn, unless_refusal, refusal_or_answer}
+use Rattle.cube.proofs.Refusals.{tests_in_turn, unless_refusal}
 use Rattle.report.specs.Report.{dimension, narrow}
 use Rattle.report.proofs.Laws.{dimension_range}
 use Rattle.record.specs.Fields.{Fields, fields}
@@ -139,6 +139,3 @@ module _ (bytes status links : List ℕ) where
 
 -- what the check applies at the tests of a record
 pub ruleset record_tests = (tests_in_turn, unless_refusal, dimension_range)
-
--- and at the exits of Open
-pub ruleset after_tests = (refusing, reading, refusal_or_answer)

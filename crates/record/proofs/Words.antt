@@ -14,7 +14,7 @@ use lib.Seq.{get_or-take, get_or-drop}
 use Rattle.std.specs.List.{fold}
 use Rattle.std.specs.Simd.{first_chunks}
 use Rattle.cube.specs.Table.{table}
-use Rattle.cube.proofs.Order.{lt_or_ge}
+use Rattle.std.proofs.lemmas.Bool.{cases_lt}
 use Rattle.cube.proofs.Table.{written, table_ext, written_none, written_next, written_all}
 use Rattle.report.specs.Report.{narrow}
 use Rattle.record.specs.Open.{word, n_in, link_in, links_in}
@@ -34,7 +34,7 @@ right_le a b = omega (arith, or_add_and a b, and_le_l a b)
 
 -- a mask is below 2^n if both parts are
 both_below : (n a b : ℕ) → ltb (bit_or a b) (2 ^ n) ≡ ltb a (2 ^ n) && ltb b (2 ^ n)
-both_below n a b = ⊎_elim below above (lt_or_ge (bit_or a b) (2 ^ n))
+both_below n a b = ⊎_elim below above (cases_lt (bit_or a b) (2 ^ n))
   where
     below : bit_or a b < 2 ^ n → ltb (bit_or a b) (2 ^ n) ≡ ltb a (2 ^ n) && ltb b (2 ^ n)
     below h =
@@ -42,14 +42,14 @@ both_below n a b = ⊎_elim below above (lt_or_ge (bit_or a b) (2 ^ n))
         refl
 
     beyond : b < 2 ^ n → 2 ^ n ≤ bit_or a b → ltb a (2 ^ n) ≡ false
-    beyond l h = ⊎_elim (λ k. absurd (let z = or_lt n a b k l in omega arith)) (λ k. le-ltb a (2 ^ n) k) (lt_or_ge a (2 ^ n))
+    beyond l h = ⊎_elim (λ k. absurd (let z = or_lt n a b k l in omega arith)) (λ k. le-ltb a (2 ^ n) k) (cases_lt a (2 ^ n))
 
     above : 2 ^ n ≤ bit_or a b → ltb (bit_or a b) (2 ^ n) ≡ ltb a (2 ^ n) && ltb b (2 ^ n)
     above h =
         ⊎_elim
         (λ l. rw (le-ltb (bit_or a b) (2 ^ n) h, beyond l h) refl)
         (λ l. rw (le-ltb (bit_or a b) (2 ^ n) h, le-ltb b (2 ^ n) l, and-false) refl)
-        (lt_or_ge b (2 ^ n))
+        (cases_lt b (2 ^ n))
 
 from_mask : (n m : ℕ) (pairs : List (List ℕ)) → ltb (fold marking m pairs) (2 ^ n) ≡ ltb m (2 ^ n) && narrow n (words_in pairs)
 unfolding narrow words_in

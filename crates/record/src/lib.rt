@@ -94,7 +94,7 @@ impl<'a> Parts<'a> {
 }
 
 // Reads a record: gives its n back, and writes its status bytes and link words into the first 2^n places of the lent slices.
-#[tactic(auto, using(crate::proofs::Refusals::after_tests), unfolding(crate::specs::Open::opened, crate::specs::Open::status_opened, crate::specs::Open::links_opened))]
+#[tactic(auto, using(crate::proofs::Exits::laws), unfolding(crate::specs::Open::opened, crate::specs::Open::status_opened, crate::specs::Open::links_opened))]
 pub fn open(bytes: &[u8], status: &mut [u8], links: &mut [u16]) -> Result<u32, Refusal>
     ensures answer { said result ≡ opened bytes.now status.old links.old }
     ensures boards { status.new ≡ status_opened bytes.now status.old links.old }
