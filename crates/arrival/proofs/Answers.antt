@@ -8,6 +8,7 @@ use lib.Count.{ones}
 use Rattle.cube.specs.Bits.{bit, weight}
 use Rattle.cube.specs.Reply.{Reply, refused, accepted}
 use Rattle.cube.proofs.Count.{weight_le, weight_zero}
+use Rattle.cube.proofs.Reply.{refused_accepted}
 use Rattle.report.specs.Health.{Cube}
 use Rattle.safety.specs.Safety.{safe, vectors}
 use Rattle.held.specs.Held.{own}
@@ -33,6 +34,10 @@ pub record Leads (C : Cube) (d a nav left : ℕ) (reply : Reply Next) : Type 0 w
   pub some : (i : ℕ) × (bit mask i ≡ true)
   pub each : (i : ℕ) → bit mask i ≡ true → Hopped C d a nav left i
 
+-- no arrival is an offer
+arrived_onward : {mask : ℕ} → accepted arrived ≡ accepted (onward mask) → ⊥
+arrived_onward e = let z : ◌≡◌ {A = ℕ} 0 1 = cc in omega arith
+
 -- what the answer is to a message with so many hops left
 abbrev pub Guides : Cube → ℕ → ℕ → ℕ → ℕ → Reply Next → Type 0
 Guides C d a nav left reply = Ends nav left reply ⊎ Leads C d a nav left reply
@@ -40,18 +45,18 @@ Guides C d a nav left reply = Ends nav left reply ⊎ Leads C d a nav left reply
 module _ {C : Cube} {d a nav left : ℕ} {reply : Reply Next} where
   -- each dimension offered is a good hop
   pub hopped : {mask i : ℕ} → Guides C d a nav left reply → reply ≡ accepted (onward mask) → bit mask i ≡ true → Hopped C d a nav left i
-  hopped (inl g) e b = absurd (let z : ◌≡◌ {A = ℕ} 0 1 = cc g.says in omega arith)
+  hopped (inl g) e b = absurd (arrived_onward (sym g.says ∙ e))
   hopped {mask} {i} (inr g) e b = g.each i (let same : g.mask ≡ mask = cc g.says in rw same b)
 
   -- it offers no dimension above n
   pub small_of : {mask : ℕ} → Guides C d a nav left reply → reply ≡ accepted (onward mask) → mask < 2 ^ C.dim
-  small_of (inl g) e = absurd (let z : ◌≡◌ {A = ℕ} 0 1 = cc g.says in omega arith)
+  small_of (inl g) e = absurd (arrived_onward (sym g.says ∙ e))
   small_of {mask} (inr g) e = let same : g.mask ≡ mask = cc g.says in rw same at g.small
 
   -- nothing is refused
   pub no_refusal_of : {m : ℕ} → Guides C d a nav left reply → reply ≡ refused m → ⊥
-  no_refusal_of (inl g) e = let z : ◌≡◌ {A = ℕ} 0 1 = cc g.says in omega arith
-  no_refusal_of (inr g) e = let z : ◌≡◌ {A = ℕ} 0 1 = cc g.says in omega arith
+  no_refusal_of (inl g) e = refused_accepted _ _ (sym e ∙ g.says)
+  no_refusal_of (inr g) e = refused_accepted _ _ (sym e ∙ g.says)
 
   -- the message has arrived exactly where no hop is left
   pub left_zero : Guides C d a nav left reply → (nav ≡ 0) ↔ (left ≡ 0)

@@ -7,7 +7,7 @@ use borrow.Author.Tests.{not-true}
 use lib.Bits.{bit_xor, xor_self, xor_zero_r}
 use Rattle.cube.specs.Bits.{bit, flip, weight}
 use Rattle.cube.proofs.Bits.{flip_lt}
-use Rattle.cube.proofs.Count.{weight_le, weight_off, weight_on, weight_zero, xor_cancel, xor_crossed}
+use Rattle.cube.proofs.Count.{weight_le, weight_off, weight_on, weight_zero, xor_twice, xor_crossed}
 use Rattle.report.specs.Health.{Cube}
 use Rattle.safety.specs.Safety.{safe, vectors}
 use Rattle.held.specs.Held.{own}
@@ -40,7 +40,7 @@ pub record Hopped (C : Cube) (d a nav left i : ℕ) : Type 0 where
 module _ {C : Cube} {d a nav : ℕ} (m : At C d a nav) where
   -- the relative address is the exclusive or of the board and the destination
   pub address_of : nav ≡ bit_xor a d
-  address_of = sym (xor_cancel C.dim a nav m.node m.near) ∙ ap (bit_xor a) m.address
+  address_of = sym (xor_twice a nav) ∙ ap (bit_xor a) m.address
 
   -- it is 0 at the destination and nowhere else
   pub home_of_zero : nav ≡ 0 → a ≡ d
@@ -59,7 +59,7 @@ module _ {C : Cube} {d a nav : ℕ} (m : At C d a nav) where
               size = m.size;
               node = node;
               near = near;
-              address = xor_crossed C.dim a nav (suc j) m.node m.near l ∙ m.address;
+              address = xor_crossed a nav (suc j) ∙ m.address;
               there = m.there;
             };
         bears = sym (own_safe C _ (flip a (suc j)) (weight_le C.dim (flip nav (suc j)) near) node) ∙ e;

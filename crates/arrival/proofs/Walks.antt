@@ -11,7 +11,7 @@ use lib.Dec.{eqb}
 use lib.ListN.{length}
 use Rattle.cube.specs.Bits.{bit, flip, weight}
 use Rattle.cube.specs.Reply.{Reply, refused, accepted, unless}
-use Rattle.cube.proofs.Count.{xor_cancel}
+use Rattle.cube.proofs.Count.{xor_twice}
 use Rattle.cube.proofs.Reply.{unless_accepted, unless_none, unless_refused}
 use Rattle.report.specs.Health.{Cube}
 use Rattle.report.specs.Report.{Report, cube}
@@ -68,7 +68,7 @@ module _ (R : Report) where
           size = (dimension_range R.dim t.dim).0;
           node = t.node;
           near = xor_lt R.dim s d t.node t.other;
-          address = xor_cancel R.dim s d t.node t.other;
+          address = xor_twice s d;
           there = t.there;
         }
 

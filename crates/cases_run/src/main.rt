@@ -28,8 +28,6 @@ mod say;
 
 ghost use Rattle.std.specs.Prelude.{◌≡◌, length};
 
-use std::io::Stdout;
-
 // One byte more than the cases may have.
 const ROOM: usize = 131073;
 
@@ -38,13 +36,6 @@ fn room() -> [u8; ROOM]
     ensures { 131073 ≡ length result }
 {
     [0; ROOM]
-}
-
-// Runs the case of each line.
-fn cases(out: Stdout, text: &[u8]) {
-    for line in text.split_inclusive(|byte| *byte == b'\n') {
-        given::case(out, line.strip_suffix(b"\n").unwrap_or(line));
-    }
 }
 
 // Reads all cases, then runs them.
@@ -57,6 +48,6 @@ fn main(rt: HostRuntime) {
             out,
             b"cases_run: standard input is longer than 131072 bytes\n",
         ),
-        Ok(count) => cases(out, &text[..count]),
+        Ok(count) => say::each_line(&text[..count], |line| given::case(out, line)),
     }
 }

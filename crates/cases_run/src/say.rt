@@ -103,10 +103,19 @@ pub(crate) fn memory(out: Stdout, job: u8, given: &Given) {
     }
 }
 
+// Does something with each line of a text, without its end.
+pub(crate) fn each_line<F: FnMut(&[u8])>(text: &[u8], mut with: F)
+    requires { F.IsAlwaysCallable with }
+{
+    for line in text.split_inclusive(|byte| *byte == b'\n') {
+        with(line.strip_suffix(b"\n").unwrap_or(line));
+    }
+}
+
 // Prints a text on one line, | for each line's end.
 pub(crate) fn barred(out: Stdout, text: &[u8]) {
-    for line in text.split_inclusive(|byte| *byte == b'\n') {
-        say(out, line.strip_suffix(b"\n").unwrap_or(line));
+    each_line(text, |line| {
+        say(out, line);
         say(out, b"|");
-    }
+    });
 }

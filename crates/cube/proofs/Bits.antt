@@ -2,12 +2,13 @@
 use mathlib.Core.Path.{◌≡◌, refl, ap, sym, ◌∙◌}
 use mathlib.Core.Bool.{Bool, true, false, not, xor, false≢true, ◌&&◌, ◌||◌, and-false}
 use Prim.Native.Nat.{ℕ, zero, suc, min, max, ◌+◌, ◌*◌, ◌-◌, ◌/◌, ◌%◌, ◌^◌, ◌≤◌, ◌<◌}
-use native.Mathlib.Nat.{div-eq_of_lt, mod-eq_of_lt, lt_of_lt_of_le, div_self, one-mul, mul-mod_left}
+use native.Mathlib.Nat.{div-eq_of_lt, lt_of_lt_of_le, div_self, mul-mod_left}
 use native.Mathlib.Omega.{arith}
 use mathlib.Core.Logic.{⊎_elim}
 use borrow.Author.Tests.{le-leb, lt-leb}
 use lib.Dec.{eqb}
-use Rattle.cube.proofs.Order.{lt_or_ge}
+use Rattle.std.proofs.lemmas.Bool.{cases_lt}
+use Rattle.std.proofs.lemmas.Nat.{one_shl}
 use lib.Bits.{bit_xor, bit_and, bit_or, differ, and_step, and_shr, or_step, or_shr, xor_step, xor_shr, xor_lt, xor_zero_r}
 use lib.Pow.{pow_pos, pow_mono, pow-lt, pow-add, field, mod-mod-pow}
 use Rattle.cube.specs.Bits.{bit, place, flip, crossed}
@@ -90,7 +91,7 @@ bit_place i = ap (λ (d : ℕ). eqb (d % 2) 1) (div_self (pow_pos i))
 pub bit_place_other : (i j : ℕ) → (j ≡ i → ⊥) → bit (place i) j ≡ false
 unfolding place
 bit_place_other zero j ne = bit_zero j
-bit_place_other (suc i) j ne = ⊎_elim above below (lt_or_ge i j)
+bit_place_other (suc i) j ne = ⊎_elim above below (cases_lt i j)
   where
     below : j ≤ i → bit (2 ^ i) j ≡ false
     below h =
@@ -103,16 +104,12 @@ bit_place_other (suc i) j ne = ⊎_elim above below (lt_or_ge i j)
     above : i < j → bit (2 ^ i) j ≡ false
     above h = bit_high (2 ^ i) (suc i) j (pow-lt {i = i} {j = suc i} (omega arith)) (omega (arith, ne))
 
--- a power of two as the machine shifts it, in a word of w bits
-pub pow_shift : (i w : ℕ) → i < w → 1 * 2 ^ i % 2 ^ w ≡ 2 ^ i
-pow_shift i w h = ap (λ (x : ℕ). x % 2 ^ w) (one-mul (2 ^ i)) ∙ mod-eq_of_lt (pow-lt {i = i} {j = w} h)
-
 -- the weight of a dimension as the machine shifts it
 pub place_shift : (i : ℕ) → 1 ≤ i → i ≤ 16 → 1 * 2 ^ (i - 1) % 65536 ≡ place i
 unfolding place
 place_shift zero l h = absurd (omega arith)
 place_shift (suc i) l h =
-    ap (λ (x : ℕ). 1 * 2 ^ x % 65536) (let e : suc i - 1 ≡ i = omega arith in e) ∙ pow_shift i 16 h
+    ap (λ (x : ℕ). 1 * 2 ^ x % 65536) (let e : suc i - 1 ≡ i = omega arith in e) ∙ one_shl i 16 h
 
 -- crossing changes its own bit
 pub bit_flip : (a i : ℕ) → bit (flip a (suc i)) (suc i) ≡ not (bit a (suc i))
@@ -141,7 +138,7 @@ flip_lt n a (suc i) ha hi = xor_lt n a (2 ^ i) ha (pow-lt {i = i} {j = n} hi)
 -- crossing as the machine does it
 pub flip_next : (a i w : ℕ) → i < w → bit_xor a (1 * 2 ^ i % 2 ^ w) ≡ flip a (suc i)
 unfolding flip place
-flip_next a i w h = ap (bit_xor a) (pow_shift i w h)
+flip_next a i w h = ap (bit_xor a) (one_shl i w h)
 
 -- a bit as the machine tests it
 pub bit_shift : (x i : ℕ) → 1 ≤ i → eqb (x / 2 ^ (i - 1) % 2) 1 ≡ bit x i

@@ -1,20 +1,20 @@
 -- The laws of `pack`, `count`, `any`, `ranked` and `weight`. "For i from 1 to n" is said of `suc i` with i below n.
 use mathlib.Core.Path.{◌≡◌, refl, ap, ap₂, sym, ◌∙◌}
-use mathlib.Core.Bool.{Bool, true, false, not, xor, cond, ◌&&◌, ◌||◌, and-false, and_comm, or-true, or-false, true≢false, false≢true}
+use mathlib.Core.Bool.{Bool, true, false, not, cond, ◌&&◌, ◌||◌, and-false, and_comm, or-true, or-false, true≢false, false≢true}
 use mathlib.Core.Logic.{⊎_elim}
 use Prim.Native.Nat.{ℕ, zero, suc, ◌+◌, ◌*◌, ◌-◌, ◌/◌, ◌%◌, ◌^◌, ◌≤◌, ◌<◌}
-use native.Mathlib.Nat.{mod-eq_of_lt, mod-one, mod-lt, le_trans, le_of_eq, lt_of_le_of_lt, lt_of_lt_of_le, add-zero, eq-zero-or-pos, pow-succ', add-mul, mul_assoc}
+use native.Mathlib.Nat.{mod-eq_of_lt, mod-one, mod-lt, le_trans, le_of_eq, lt_of_le_of_lt, add-zero, eq-zero-or-pos, pow-succ', add-mul, mul_assoc}
 use native.Mathlib.Numerals.{add-one, one-add}
 use native.Mathlib.Omega.{arith}
 use borrow.Author.Tests.{lt-ltb, eq-eqb, ne_eqb, eqb-true, eqb-false}
-use lib.Bits.{bit_xor, bit_and, and_le_l, xor_lt, xor_comm}
+use lib.Bits.{bit_xor, bit_and, and_le_l, xor_comm, xor_assoc, xor_self, xor_zero_r}
 use lib.Dec.{eqb, ltb}
 use lib.Count.{ones, ones_cat}
-use lib.Pow.{pow_pos, pow-lt, pow_mono, high, low, mod-pow-add}
+use lib.Pow.{pow_pos, pow-lt, high, low, mod-pow-add}
 use Rattle.cube.specs.Bits.{bit, place, flip, weight}
 use Rattle.cube.specs.Count.{one, pack, count, any, ranked}
-use Rattle.cube.proofs.Order.{lt_or_ge, eq_or_ne}
-use Rattle.cube.proofs.Bits.{bit_of_and, bit_shift, bit_zero, bit_of_xor, bit_mod, bit_high, bit_flip, bit_flip_other, flip_lt}
+use Rattle.std.proofs.lemmas.Bool.{cases_lt, cases_eq}
+use Rattle.cube.proofs.Bits.{bit_of_and, bit_shift, bit_zero, bit_mod, bit_high, bit_flip, bit_flip_other, flip_lt}
 
 pub one_le : (b : Bool) → one b ≤ 1
 one_le true = omega arith
@@ -25,6 +25,11 @@ pub one_eqb : (d : ℕ) → d < 2 → one (eqb d 1) ≡ d
 one_eqb zero h = refl
 one_eqb (suc zero) h = refl
 one_eqb (suc (suc d)) h = absurd (omega arith)
+
+-- and what it is of, by that test
+pub one_is : (b : Bool) → eqb (one b) 1 ≡ b
+one_is true = refl
+one_is false = refl
 
 -- a bit as a number, as the machine takes it
 pub one_bit : (x i : ℕ) → 1 ≤ i → x / 2 ^ (i - 1) % 2 ≡ one (bit x i)
@@ -92,7 +97,7 @@ packed_all p n mask e = omega arith
 pub bit_pack : (p : ℕ → Bool) (n i : ℕ) → i < n → bit (pack p n) (suc i) ≡ p (suc i)
 unfolding pack bit
 bit_pack p zero i h = absurd (omega arith)
-bit_pack p (suc n) i h = ⊎_elim (λ (l : i < n). lower l (bit_pack p n i l)) top (lt_or_ge i n)
+bit_pack p (suc n) i h = ⊎_elim (λ (l : i < n). lower l (bit_pack p n i l)) top (cases_lt i n)
   where
     swap : pack p n + one (p (suc n)) * 2 ^ n ≡ one (p (suc n)) * 2 ^ n + pack p n
     swap = omega arith
@@ -164,7 +169,7 @@ pack_each p n P each zero e = absurd (false≢true e)
 pack_each p n P each (suc j) e =
     ⊎_elim (λ (l : j < n). each j l (sym (bit_pack p n j l) ∙ e))
     (λ (l : n ≤ j). absurd (false≢true (sym (bit_high (pack p n) n (suc j) (pack_lt p n) (omega arith)) ∙ e)))
-    (lt_or_ge j n)
+    (cases_lt j n)
 
 -- a packed word that is not 0 has a bit set
 pub pack_find : (p : ℕ → Bool) (n : ℕ) → 0 < pack p n → (i : ℕ) × (i < n) × (p (suc i) ≡ true)
@@ -216,7 +221,7 @@ one_none false e = refl
 pub count_none : (p : ℕ → Bool) (n : ℕ) → count p n ≡ 0 → (i : ℕ) → i < n → p (suc i) ≡ false
 unfolding count
 count_none p zero e i h = absurd (omega arith)
-count_none p (suc n) e i h = ⊎_elim (λ (l : i < n). count_none p n (omega arith) i l) last (lt_or_ge i n)
+count_none p (suc n) e i h = ⊎_elim (λ (l : i < n). count_none p n (omega arith) i l) last (cases_lt i n)
   where
     last : n ≤ i → p (suc i) ≡ false
     last l = let same : i ≡ n = omega arith in rw same (one_none (p (suc n)) (omega arith))
@@ -254,7 +259,7 @@ pub count_drop : (p q : ℕ → Bool) (n i : ℕ) → i < n → p (suc i) ≡ tr
     → ((j : ℕ) → (j ≡ i → ⊥) → p (suc j) ≡ q (suc j)) → count p n ≡ suc (count q n)
 unfolding count
 count_drop p q zero i h ep eq same = absurd (omega arith)
-count_drop p q (suc n) i h ep eq same = ⊎_elim last (λ (ne : n ≡ i → ⊥). earlier ne (count_drop p q n i (omega (arith, ne)) ep eq same)) (eq_or_ne n i)
+count_drop p q (suc n) i h ep eq same = ⊎_elim last (λ (ne : n ≡ i → ⊥). earlier ne (count_drop p q n i (omega (arith, ne)) ep eq same)) (cases_eq n i)
   where
     last : n ≡ i → count p n + one (p (suc n)) ≡ suc (count q n + one (q (suc n)))
     last e =
@@ -274,7 +279,7 @@ unfolding count
 count_mono p i zero h = le_of_eq (ap (count p) (let e : i ≡ 0 = omega arith in e))
 count_mono p i (suc n) h =
     ⊎_elim (λ (l : i < suc n). le_trans (count_mono p i n (omega arith)) (omega arith))
-    (λ (l : suc n ≤ i). le_of_eq (ap (count p) (let e : i ≡ suc n = omega arith in e))) (lt_or_ge i (suc n))
+    (λ (l : suc n ≤ i). le_of_eq (ap (count p) (let e : i ≡ suc n = omega arith in e))) (cases_lt i (suc n))
 
 -- ---- ranked
 
@@ -291,7 +296,7 @@ ranked_le p r (suc n) = go (p (suc n) && eqb (count p n) r) (ranked_le p r n)
 pub ranked_found : (p : ℕ → Bool) (r n i : ℕ) → i < n → p (suc i) ≡ true → count p i ≡ r → ranked p r n ≡ suc i
 unfolding ranked count
 ranked_found p r zero i h e k = absurd (omega arith)
-ranked_found p r (suc n) i h e k = ⊎_elim (λ (l : i < n). lower l (ranked_found p r n i l e k)) top (lt_or_ge i n)
+ranked_found p r (suc n) i h e k = ⊎_elim (λ (l : i < n). lower l (ranked_found p r n i l e k)) top (cases_lt i n)
   where
     top : n ≤ i → cond (p (suc n) && eqb (count p n) r) (suc n) (ranked p r n) ≡ suc i
     top l = let s : i ≡ n = omega arith in rw (sym s, e, eq-eqb (count p i) r k)
@@ -378,61 +383,16 @@ weight_some n x h e = weight_pos n x h (omega (arith, eqb-false x 0 e))
 
 -- ---- relative addresses
 
-cancel : (a r p : Bool) → xor (xor a p) (xor r p) ≡ xor a r
-unfolding xor
-cancel true true true = refl
-cancel true true false = refl
-cancel true false true = refl
-cancel true false false = refl
-cancel false true true = refl
-cancel false true false = refl
-cancel false false true = refl
-cancel false false false = refl
-
-again : (a x : Bool) → xor a (xor a x) ≡ x
-unfolding xor
-again true true = refl
-again true false = refl
-again false true = refl
-again false false = refl
-
 -- a node with its relative address names the destination, and with the destination its relative address
-pub xor_cancel : (n a x : ℕ) → a < 2 ^ n → x < 2 ^ n → bit_xor a (bit_xor a x) ≡ x
-xor_cancel n a x ha hx =
-    bit_ext (bit_xor a (bit_xor a x)) x n (xor_lt n a (bit_xor a x) ha (xor_lt n a x ha hx)) hx
-    (λ j l. bit_of_xor a (bit_xor a x) (suc j) ∙ ap (xor (bit a (suc j))) (bit_of_xor a x (suc j)) ∙ again (bit a (suc j)) (bit x (suc j)))
-
-self_lt : (x : ℕ) → x < 2 ^ x
-self_lt zero = pow_pos 0
-self_lt (suc x) = omega (arith, self_lt x)
-
--- so of all numbers
 pub xor_twice : (a x : ℕ) → bit_xor a (bit_xor a x) ≡ x
-xor_twice a x =
-    xor_cancel (a + x) a x
-    (lt_of_lt_of_le (self_lt a) (pow_mono {i = a} {j = a + x} (omega arith)))
-    (lt_of_lt_of_le (self_lt x) (pow_mono {i = x} {j = a + x} (omega arith)))
-
-place_lt : (n i : ℕ) → place i < 2 ^ (n + i)
-unfolding place
-place_lt n zero = pow_pos (n + 0)
-place_lt n (suc i) = pow-lt {i = i} {j = n + suc i} (omega arith)
+xor_twice a x = sym (xor_assoc a a x) ∙ ap (λ (y : ℕ). bit_xor y x) (xor_self a)
 
 -- crossing a dimension twice goes back
 pub flip_twice : (a i : ℕ) → flip (flip a i) i ≡ a
 unfolding flip
-flip_twice a i =
-    xor_comm (bit_xor a (place i)) (place i)
-    ∙ ap (bit_xor (place i)) (xor_comm a (place i))
-    ∙ xor_cancel (a + i) (place i) a (place_lt a i) (lt_of_lt_of_le (self_lt a) (pow_mono {i = a} {j = a + i} (omega arith)))
+flip_twice a i = xor_assoc a (place i) (place i) ∙ ap (bit_xor a) (xor_self (place i)) ∙ xor_zero_r a
 
 -- a node and its relative address, both with one dimension crossed, name the same destination
-pub xor_crossed : (n a r i : ℕ) → a < 2 ^ n → r < 2 ^ n → i ≤ n → bit_xor (flip a i) (flip r i) ≡ bit_xor a r
+pub xor_crossed : (a r i : ℕ) → bit_xor (flip a i) (flip r i) ≡ bit_xor a r
 unfolding flip
-xor_crossed n a r i ha hr hi =
-    bit_ext (bit_xor (flip a i) (flip r i)) (bit_xor a r) n
-    (xor_lt n (flip a i) (flip r i) (flip_lt n a i ha hi) (flip_lt n r i hr hi)) (xor_lt n a r ha hr)
-    (λ j l. bit_of_xor (flip a i) (flip r i) (suc j)
-    ∙ ap₂ xor (bit_of_xor a (place i) (suc j)) (bit_of_xor r (place i) (suc j))
-    ∙ cancel (bit a (suc j)) (bit r (suc j)) (bit (place i) (suc j))
-    ∙ sym (bit_of_xor a r (suc j)))
+xor_crossed a r i = xor_assoc a (place i) (flip r i) ∙ ap (bit_xor a) (xor_comm (place i) (flip r i) ∙ flip_twice r i)

@@ -1,4 +1,3 @@
-pub mod Order
 pub mod Bits
 pub mod Count
 pub mod Strip

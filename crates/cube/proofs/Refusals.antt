@@ -9,17 +9,21 @@ use Rattle.cube.specs.Reply.{Reply, refused, accepted, unless, kept, OneAnswer}
 use Rattle.cube.specs.Refusals.{number_in, saying, refused_by}
 use Rattle.cube.specs.declared.refusal.Refusal.{Refusal}
 use Rattle.cube.specs.declared.refusal.Refusal.TheVariants.{Dimension, Length, LinkWord, Address, Source, Destination, NoRoute, NotBorneOut, NothingToOffer, Malformed, LogRecord, LogNode}
-use Rattle.cube.proofs.Reply.{unless_some, unless_none, kept_some, kept_none, one_answer}
+use Rattle.cube.proofs.Reply.{refused_accepted, unless_some, unless_none, kept_some, kept_none, one_answer}
+
+-- no refusal is an answer
+ok_err : {A : Type 0} (x : A) (e : Refusal) → ◌≡◌ {A = Result A Refusal} (Ok x) (Err e) → ⊥
+ok_err x e h = let z : ◌≡◌ {A = ℕ} 0 1 = cc in omega arith
 
 -- a test that refused didn't hold, and the refusal is its own
 pub failed : (t : Bool) (r e : Refusal) → ◌≡◌ {A = Result (Unit {0}) Refusal} (Err e) (cond t (Ok tt) (Err r)) → (t ≡ false) × (e ≡ r)
-failed true r e h = absurd (let z : ◌≡◌ {A = ℕ} 0 1 = cc in omega arith)
+failed true r e h = absurd (ok_err tt e (sym h))
 failed false r e h = (refl, cc)
 
 -- a test that did not refuse holds
 pub holds : (t : Bool) (r : Refusal) (u : Unit {0}) → ◌≡◌ {A = Result (Unit {0}) Refusal} (Ok u) (cond t (Ok tt) (Err r)) → t ≡ true
 holds true r u h = refl
-holds false r u h = absurd (let z : ◌≡◌ {A = ℕ} 0 1 = cc in omega arith)
+holds false r u h = absurd (ok_err u r h)
 
 -- the number of one test's refusal
 pub of_test : (t : Bool) (r : Refusal) → refused_by (cond t (Ok tt) (Err r)) ≡ cond (not t) (number_in r) 0
@@ -94,7 +98,7 @@ one_answer_by {A = A} {B = B} f back h = one_answer (saying f) undo undone
 -- an answer that says an acceptance is one
 pub accepts : {A B : Type 0} (f : A → B) (r : Result A Refusal) (y : B) → saying f r ≡ accepted y → is_ok r ≡ true
 accepts f (Ok x) y e = refl
-accepts f (Err m) y e = absurd (let z : ◌≡◌ {A = ℕ} 0 1 = cc in omega arith)
+accepts f (Err m) y e = absurd (refused_accepted _ y e)
 
 -- what the check applies at a list of tests, one after another with `?`
 pub ruleset tests_in_turn = (failed, holds, of_test)

@@ -7,6 +7,10 @@ use Prim.Native.Nat.{ℕ, zero, suc, ◌≤◌}
 use native.Mathlib.Omega.{arith}
 use Rattle.cube.specs.Reply.{Reply, refused, accepted, if_accepted, unless, kept, OneAnswer}
 
+-- no refusal is an acceptance
+pub refused_accepted : {A : Type 0} (m : ℕ) (x : A) → refused m ≡ accepted x → ⊥
+refused_accepted m x e = let z : ◌≡◌ {A = ℕ} 0 1 = cc in omega arith
+
 -- where nothing refuses, the first test doesn't hold, and no later one does
 pub passed : (t : Bool) (m later : ℕ) → cond t (suc m) later ≡ 0 → (t ≡ false) × (later ≡ 0)
 passed true m later e = absurd (omega arith)
@@ -26,7 +30,7 @@ refusal_le false m later top h hs = hs
 pub unless_accepted : {A : Type 0} (m : ℕ) (r : Reply A) (x : A) → unless m r ≡ accepted x → (m ≡ 0) × (r ≡ accepted x)
 unfolding unless
 unless_accepted zero r x e = (refl, e)
-unless_accepted (suc m) r x e = absurd (let z : ◌≡◌ {A = ℕ} 0 1 = cc in omega arith)
+unless_accepted (suc m) r x e = absurd (refused_accepted _ _ e)
 
 -- a number other than 0 is handed out
 pub unless_some : {A : Type 0} (m : ℕ) (r : Reply A) → (m ≡ 0 → ⊥) → unless m r ≡ refused m
@@ -56,18 +60,14 @@ unless_refused (suc m) r k e = inl (omega arith, cc)
 -- an acceptance comes of an acceptance
 pub if_accepted_lem : {A B : Type 0} (go : A → B) (x : Reply A) (y : B) → if_accepted go x ≡ accepted y → (z : A) × (x ≡ accepted z) × (go z ≡ y)
 unfolding if_accepted
-if_accepted_lem go (refused m) y e = absurd (let z : ◌≡◌ {A = ℕ} 0 1 = cc in omega arith)
+if_accepted_lem go (refused m) y e = absurd (refused_accepted _ _ e)
 if_accepted_lem go (accepted z) y e = (z, refl, cc)
 
 -- and a refusal of the same refusal
 pub if_refused : {A B : Type 0} (go : A → B) (x : Reply A) (m : ℕ) → if_accepted go x ≡ refused m → x ≡ refused m
 unfolding if_accepted
 if_refused go (refused k) m e = ap refused cc
-if_refused go (accepted z) m e = absurd (let z : ◌≡◌ {A = ℕ} 0 1 = cc in omega arith)
-
--- no refusal is an acceptance
-pub refused_accepted : {A : Type 0} (m : ℕ) (x : A) → refused m ≡ accepted x → ⊥
-refused_accepted m x e = let z : ◌≡◌ {A = ℕ} 0 1 = cc in omega arith
+if_refused go (accepted z) m e = absurd (refused_accepted _ _ (sym e))
 
 -- answers that can be read back off what they say are told apart by it
 pub one_answer : {A R : Type 0} (said : R → Reply A) (back : Reply A → R) → ((r : R) → back (said r) ≡ r) → OneAnswer said

@@ -1,11 +1,11 @@
 -- The laws of a table: its length and its entries, and of a list whose first places a table takes one by one.
 use mathlib.Core.Path.{◌≡◌, refl, sym, ap, ◌∙◌}
 use mathlib.Core.List.{List, [], ◌∷◌, ◌++◌, append-nil}
-use Prim.Native.Nat.{ℕ, zero, suc, ◌+◌, ◌≤◌, ◌<◌}
+use Prim.Native.Nat.{ℕ, zero, suc, ◌+◌, ◌<◌}
 use native.Mathlib.Nat.{add-zero, zero-add}
 use native.Mathlib.Numerals.{add-one}
 use native.Mathlib.Omega.{arith}
-use lib.ListN.{length, get_or, take, drop, set, replicate}
+use lib.ListN.{length, get_or, drop, set}
 use lib.Seq.{drop-cons, drop-length, append_snoc, set_at, ext_get_or}
 use Rattle.cube.specs.Table.{from, table}
 
@@ -60,9 +60,3 @@ written_next f xs ys k v h e same =
 -- after the last store
 pub written_all : (f : ℕ → ℕ) (xs ys : List ℕ) (k : ℕ) → k ≡ length xs → ys ≡ written f xs k → ys ≡ table f (length xs)
 written_all f xs ys k h e = e ∙ rw h (ap (λ (zs : List ℕ). table f (length xs) ++ zs) (drop-length xs) ∙ append-nil _)
-
--- a part of a list of one number
-pub take_replicate : (x m k : ℕ) → m ≤ k → take m (replicate k x) ≡ replicate m x
-take_replicate x zero k h = refl
-take_replicate x (suc m) zero h = absurd (omega arith)
-take_replicate x (suc m) (suc k) h = ap (λ (xs : List ℕ). x ∷ xs) (take_replicate x m k (omega arith))

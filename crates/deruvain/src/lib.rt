@@ -42,7 +42,7 @@ pub struct Opened {
     pub n: u32,
 }
 
-// The answer of Refresh and Update, a struct of its own since C names its field: the refusal's number, 0 for none, and how many records from the future were skipped, 0 after a refusal.
+// The answer of Refresh and Update, its own struct since C names its field: the refusal's number, 0 for none, and the records from the future skipped.
 #[repr(C)]
 #[derive(Clone, Copy)]
 pub struct Refreshed {
@@ -280,7 +280,7 @@ pub extern "C" fn deruvain_update(n: u32, sweep: u16, part: &[u8], status: &mut 
     Refreshed::from(status_log::update(n, sweep, part, status))
 }
 
-// Whether a record has room for these status bytes from its sixth byte on.
+// Whether a record has room for these status bytes from its sixth byte on. `record::restate` tests the same, and doesn't say.
 fn has_room(bytes: &[u8], status: &[u8]) -> bool
     ensures { result ≡ leb (5 + length status.now) (length bytes.now) }
 {

@@ -13,7 +13,7 @@ use lib.ListN.{length, get_or-eq_default}
 use Rattle.cube.specs.Bits.{bit, flip}
 use Rattle.report.specs.Report.{cut}
 use Rattle.cube.specs.Count.{one, pack}
-use Rattle.cube.proofs.Count.{one_bit_next}
+use Rattle.cube.proofs.Count.{one_is, one_bit_next}
 use Rattle.cube.proofs.Bits.{bit_zero, bit_high, flip_lt}
 use Rattle.report.specs.Health.{Cube}
 use Rattle.safety.specs.Safety.{registered, safe, vectors}
@@ -51,11 +51,11 @@ pub fits_of : (n : ℕ) (xs : List ℕ) (a : ℕ) → n ≤ 10 → length xs ≡
 unfolding fits
 fits_of n xs a hn hl ha = rw (le-leb n 10 hn, eq-eqb (length xs) (2 ^ n) hl, lt-ltb a (2 ^ n) ha)
 
--- what a test of `fits` tells
-pub fits_at : (n : ℕ) (xs : List ℕ) (a : ℕ) → fits n xs a ≡ true → (n ≤ 10) × (a < 2 ^ n) × (length xs ≡ 2 ^ n)
+-- past a test of `fits` that passed the sizes are known
+pub fits_at : (n : ℕ) (xs : List ℕ) (a : ℕ) (t : Bool) → t ≡ fits n xs a → t ≡ true → (n ≤ 10) × (a < 2 ^ n) × (length xs ≡ 2 ^ n)
 unfolding fits
-fits_at n xs a e =
-    let p = (and-eq-true_iff _ _).0 e in
+fits_at n xs a t r e =
+    let p = (and-eq-true_iff _ _).0 (sym r ∙ e) in
     let q = (and-eq-true_iff _ _).0 p.1 in
     (leb-true n 10 p.0, ltb-true a (2 ^ n) q.1, eqb-true (length xs) (2 ^ n) q.0)
 
@@ -84,10 +84,6 @@ byte_small false = omega arith
 -- a bit below 32 as a truth value
 pub held_is : (w k r : ℕ) → k < 32 → r ≡ one (held w (k % 32)) → eqb r 1 ≡ held w k
 held_is w k r h e = ap (λ (x : ℕ). eqb x 1) (held_mod w k r h e) ∙ one_is (held w k)
-  where
-    one_is : (b : Bool) → eqb (one b) 1 ≡ b
-    one_is true = refl
-    one_is false = refl
 
 -- the word 0 has bit 0 alone
 pub held_none : (k : ℕ) → held 0 k ≡ eqb k 0

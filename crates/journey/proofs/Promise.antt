@@ -10,7 +10,7 @@ use lib.Seq.{get_or_at}
 use Rattle.cube.specs.Bits.{flip}
 use Rattle.cube.specs.Reply.{refused, accepted}
 use Rattle.cube.proofs.Bits.{bit_pos}
-use Rattle.cube.proofs.Order.{lt_or_ge}
+use Rattle.std.proofs.lemmas.Bool.{cases_lt as lt_or_ge}
 use Rattle.cube.proofs.Reply.{unless_accepted, unless_refused, if_accepted_lem, if_refused}
 use Rattle.report.specs.Report.{Report}
 use Rattle.safety.specs.Safety.{vectors_of}

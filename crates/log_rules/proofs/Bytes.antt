@@ -9,7 +9,7 @@ use borrow.Author.Tests.{leb-true, leb-false, le-leb, lt-leb, eq-eqb, ne_eqb}
 use lib.Dec.{leb}
 use lib.ListN.{length, get_or, set}
 use lib.Seq.{get_or-set_same, get_or-set_other}
-use Rattle.cube.proofs.Order.{eq_or_ne}
+use Rattle.std.proofs.lemmas.Bool.{cases_eq}
 use Rattle.record.specs.Open.{word}
 use Rattle.log_rules.specs.Log.{node_in, age, ahead, usable, ages, age_byte, least, status_byte}
 use Rattle.log_rules.specs.Refresh.{younger}
@@ -135,4 +135,4 @@ put_get_or sweep r status a h =
     (λ (ne : a ≡ node_in r → ⊥).
     get_or-set_other status (node_in r) a _ 0 ne
     ∙ rw (silent sweep a r (λ e. ne (sym e))) (sym (younger_none _)))
-    (eq_or_ne a (node_in r))
+    (cases_eq a (node_in r))

@@ -7,7 +7,7 @@ use native.Mathlib.Omega.{arith}
 use Rattle.cube.specs.Reply.{refusal, unless}
 use Rattle.cube.specs.Table.{table}
 use Rattle.cube.proofs.Table.{table_ext, length_table, get_or_table}
-use Rattle.cube.proofs.Order.{eq_or_ne}
+use Rattle.std.proofs.lemmas.Bool.{cases_eq}
 use Rattle.log_rules.specs.Log.{records, ages, status_byte, skipped, tells}
 use Rattle.log_rules.specs.Refresh.{tests, log_refusal, refreshed, status_after}
 use Rattle.log_rules.specs.Claims.{Reordered, same, swap, keep, then}
@@ -38,7 +38,7 @@ module _ (n : ℕ) where
       ⊎_elim
       (λ (e : refusal (tests n (r ∷ [])) ≡ 0). (e, sym (pass_record n r rs e) ∙ none))
       (λ (some : refusal (tests n (r ∷ [])) ≡ 0 → ⊥). absurd (some (sym (refuse_record n r rs some) ∙ none)))
-      (eq_or_ne (refusal (tests n (r ∷ []))) 0)
+      (cases_eq (refusal (tests n (r ∷ []))) 0)
 
   together : (r : List ℕ) (rs : List (List ℕ)) → refusal (tests n (r ∷ [])) ≡ 0 → refusal (tests n rs) ≡ 0 → refusal (tests n (r ∷ rs)) ≡ 0
   together r rs e es = pass_record n r rs e ∙ es

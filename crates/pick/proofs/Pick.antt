@@ -9,7 +9,8 @@ use Rattle.std.specs.Prelude.{Some, None}
 use Rattle.cube.specs.Bits.{bit}
 use Rattle.cube.specs.Count.{ranked}
 use Rattle.cube.proofs.Bits.{bit_high}
-use Rattle.cube.proofs.Order.{lt_or_ge}
+use Rattle.std.proofs.lemmas.Bool.{cases_lt}
+use Rattle.std.proofs.lemmas.Option.{none-some}
 use Rattle.cube.proofs.Count.{ranked_le, ranked_in, weight_below, weight_pos}
 use Rattle.pick.specs.Pick.{named, taken}
 
@@ -30,10 +31,10 @@ unfolding ranked
 past mask r zero h l = absurd (omega arith)
 past mask r (suc n) h l =
     ⊎_elim (λ (m : n < 16). ap (ranked (bit mask) r) (let e : suc n ≡ 16 = omega arith in e))
-    (λ (m : 16 ≤ n). rw (bit_high mask 16 (suc n) h (omega arith)) (past mask r n h m)) (lt_or_ge n 16)
+    (λ (m : 16 ≤ n). rw (bit_high mask 16 (suc n) h (omega arith)) (past mask r n h m)) (cases_lt n 16)
 
 pub ranked_top : (mask r n : ℕ) → mask < 2 ^ 16 → ranked (bit mask) r (min n 16) ≡ ranked (bit mask) r n
-ranked_top mask r n h = ⊎_elim low high (lt_or_ge n 16)
+ranked_top mask r n h = ⊎_elim low high (cases_lt n 16)
   where
     low : n < 16 → ranked (bit mask) r (min n 16) ≡ ranked (bit mask) r n
     low l = ap (ranked (bit mask) r) (let e : min n 16 ≡ n = omega arith in e)
@@ -43,9 +44,9 @@ ranked_top mask r n h = ⊎_elim low high (lt_or_ge n 16)
 
 -- what a number names, and that 0 alone names nothing
 pub named_some : (t i : ℕ) → Some i ≡ named t → i ≡ t
-named_some zero i e = absurd (let z : ◌≡◌ {A = ℕ} 0 1 = cc in omega arith)
+named_some zero i e = absurd (none-some i (sym e))
 named_some (suc t) i e = cc
 
 pub named_none : (t : ℕ) → None ≡ named t → t ≡ 0
 named_none zero e = refl
-named_none (suc t) e = absurd (let z : ◌≡◌ {A = ℕ} 0 1 = cc in omega arith)
+named_none (suc t) e = absurd (none-some (suc t) e)

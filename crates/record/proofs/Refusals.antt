@@ -1,21 +1,52 @@
 -- The refusals of Open: the number that comes first, and what follows where there is none.
-use mathlib.Core.Path.{◌≡◌, refl, sym}
-use mathlib.Core.Bool.{Bool, true, not, ◌&&◌, and-eq-true_iff}
+use mathlib.Core.Path.{◌≡◌, refl, sym, ap}
+use mathlib.Core.Bool.{Bool, true, not, ◌&&◌, cond, and-eq-true_iff}
 use mathlib.Core.List.{List, ◌++◌}
 use Prim.Native.Nat.{ℕ, zero, suc, ◌+◌, ◌-◌, ◌*◌, ◌^◌, ◌≤◌}
 use native.Mathlib.Omega.{arith}
-use borrow.Author.Tests.{eqb-true, leb-true, ltb-false, not-false}
+use borrow.Author.Tests.{eqb-true, leb-true, ltb-false, not-false, le-ltb}
 use lib.Dec.{leb, ltb, eqb}
 use lib.ListN.{length, drop}
-use Rattle.cube.specs.Reply.{refused, accepted, unless, kept}
-use Rattle.cube.proofs.Reply.{passed}
+use Rattle.cube.specs.Reply.{Reply, refused, accepted, refusal, unless, kept}
+use Rattle.cube.specs.Refusals.{number_in}
+use Rattle.cube.specs.declared.refusal.Refusal.{Refusal}
+use Rattle.cube.proofs.Reply.{passed, later, unless_none, unless_accepted, refused_accepted}
+use Rattle.cube.proofs.Refusals.{tests_in_turn, unless_refusal, refusal_or_answer}
 use Rattle.report.specs.Report.{dimension, narrow}
 use Rattle.report.proofs.Laws.{dimension_range}
+use Rattle.record.specs.Fields.{Fields, fields}
 use Rattle.record.specs.Open.{length_in, kind_in, n_in, status_in, links_in, open_refusal, opened, status_opened, links_opened}
 
 -- both lent slices have 2^n places
 abbrev room : List ℕ → List ℕ → List ℕ → Bool
 room bytes status links = leb (2 ^ n_in bytes) (length status) && leb (2 ^ n_in bytes) (length links)
+
+-- The chain of tests: the number of nodes and the link words are looked at only where the tests before them pass.
+pub chain : (bytes status links : List ℕ) (nodes : ℕ) (sound : Bool) → 5 ≤ length bytes
+    → (n_in bytes ≤ 10 → nodes ≡ 2 ^ n_in bytes)
+    → (nodes ≡ 2 ^ n_in bytes → length bytes ≡ 5 + 3 * nodes → sound ≡ narrow (n_in bytes) (links_in bytes))
+    → cond (not (eqb (length_in bytes) (length bytes - 2))) 10
+    (cond (not (eqb (kind_in bytes) 1)) 10
+    (cond (not (dimension (n_in bytes))) 1
+    (cond (not (eqb (length_in bytes) (3 + 3 * nodes))) 10
+    (cond (not (leb nodes (length status) && leb nodes (length links))) 2
+    (cond (not sound) 3 0)))))
+    ≡ open_refusal bytes status links
+unfolding open_refusal refusal
+chain bytes status links nodes sound h count look =
+    rw (le-ltb (length bytes) 5 h)
+    (later (eqb (length_in bytes) (length bytes - 2)) 10 _ _ (λ total.
+    later (eqb (kind_in bytes) 1) 10 _ _ (λ kind.
+    later (dimension (n_in bytes)) 1 _
+    (cond (not (eqb (length_in bytes) (3 + 3 * 2 ^ n_in bytes))) 10
+    (cond (not (room bytes status links)) 2
+    (cond (not (narrow (n_in bytes) (links_in bytes))) 3 0)))
+    (λ dim.
+    let e = count (dimension_range (n_in bytes) dim).1 in
+    rw e
+    (later (eqb (length_in bytes) (3 + 3 * 2 ^ n_in bytes)) 10 _ _ (λ size.
+    ap (λ (b : Bool). cond (not (room bytes status links)) 2 (cond (not b) 3 0))
+    (look e (omega (arith, e, h, eqb-true (length_in bytes) (length bytes - 2) total, eqb-true (length_in bytes) (3 + 3 * 2 ^ n_in bytes) size)))))))))
 
 -- what holds of a record and the lent slices where Open refuses nothing
 pub record Readable (bytes status links : List ℕ) : Type 0 where
@@ -54,12 +85,38 @@ readable bytes status links none =
       narrow_links = not-false _ wide.0;
     }
 
--- what Open may count on where nothing is refused
+-- a refusal that stands for an answer is the tests' own
+pub refusing : {A : Type 0} (m : ℕ) (x : A) (e : Refusal) → refused (number_in e) ≡ unless m (accepted x) → number_in e ≡ m
+unfolding unless
+refusing zero x e h = absurd (refused_accepted _ _ h)
+refusing (suc m) x e h = cc
+
+-- where nothing is refused, the record's fields are the answer
+pub answering :
+    (bytes status links : List ℕ) (n : ℕ) (boards words : List ℕ) →
+    open_refusal bytes status links ≡ 0 →
+    n ≡ n_in bytes →
+    boards ≡ status_in bytes →
+    words ≡ links_in bytes →
+    ◌≡◌ {A = Reply Fields} (accepted (n, (boards, words))) (unless (open_refusal bytes status links) (accepted (fields bytes)))
+answering bytes status links n boards words none e f g = rw (e, f, g) (sym (unless_none _ _ none))
+
+-- what Open may count on where its tests give the parts
 pub reading :
-    (bytes status links : List ℕ) →
-    0 ≡ open_refusal bytes status links →
-    (n_in bytes ≤ 10) × ((length bytes ≡ 5 + 3 * 2 ^ n_in bytes) × ((2 ^ n_in bytes ≤ length status) × (2 ^ n_in bytes ≤ length links)))
-reading bytes status links none = let r = readable bytes status links (sym none) in (r.dimensions, (r.size, (r.status_room, r.links_room)))
+    (bytes status links : List ℕ) (n : ℕ) (boards words : List ℕ) →
+    accepted (n, (boards, words)) ≡ unless (open_refusal bytes status links) (accepted (fields bytes)) →
+    (open_refusal bytes status links ≡ 0)
+    × ((n ≡ n_in bytes)
+    × ((boards ≡ status_in bytes)
+    × ((words ≡ links_in bytes)
+    × ((2 ^ n_in bytes ≤ length status)
+    × (2 ^ n_in bytes ≤ length links)))))
+reading bytes status links n boards words e =
+    let read = unless_accepted _ _ _ (sym e) in
+    let r = readable bytes status links read.0 in
+    let same : ◌≡◌ {A = Fields} (fields bytes) (n, (boards, words)) = cc in
+    let part = λ (F : Type 0) (f : Fields → F). ap f (sym same) in
+    (read.0, (part ℕ (λ p. p.0), (part (List ℕ) (λ p. p.1.0), (part (List ℕ) (λ p. p.1.1), (r.status_room, r.links_room)))))
 
 -- what Open answers and leaves behind
 module _ (bytes status links : List ℕ) where
@@ -79,3 +136,9 @@ module _ (bytes status links : List ℕ) where
       × (links_in bytes ++ drop (2 ^ n_in bytes) links ≡ links_opened bytes status links))
   unfolding opened unless status_opened links_opened kept
   after_reading e = rw e (refl, (refl, refl))
+
+-- what the check applies at the tests of a record
+pub ruleset record_tests = (tests_in_turn, unless_refusal, dimension_range)
+
+-- and at the exits of Open
+pub ruleset after_tests = (refusing, reading, refusal_or_answer)

@@ -1,2 +1,5 @@
+pub mod Fields
 pub mod Open
+pub mod Parts
 pub mod Restate
+pub mod Words

@@ -2,10 +2,12 @@
 #![tactic(auto)]
 
 ghost use Rattle.std.specs.Prelude.{◌≡◌, ◌+◌, ◌*◌, ◌^◌, ◌<◌, ◌≤◌, length};
-ghost use Rattle.cube.specs.Refusals.{refused_by};
-ghost use Rattle.cube.specs.Reply.{OneAnswer};
+ghost use Rattle.cube.specs.Refusals.{saying};
+ghost use Rattle.cube.specs.Reply.{accepted, unless, OneAnswer};
 ghost use Rattle.report.specs.Report.{narrow};
-ghost use Rattle.record.specs.Open.{word, n_in, links_in, open_refusal, opened, status_opened, links_opened, said};
+ghost use Rattle.record.specs.Open.{word, open_refusal, opened, status_opened, links_opened, said};
+ghost use Rattle.record.specs.Fields.{fields};
+ghost use Rattle.record.specs.Words.{words_in};
 ghost use Rattle.record.specs.Restate.{restated, ReadsBack};
 
 use cube::Refusal;
@@ -23,7 +25,7 @@ pub fn word_at(bytes: &[u8], i: usize) -> u16
 }
 
 // How many nodes a cube of dimension n has.
-#[tactic(auto, using(cube::proofs::Bits::pow_shift, crate::proofs::Fields::nodes_le))]
+#[tactic(auto, using(std::proofs::lemmas::Nat::one_shl, crate::proofs::Fields::nodes_le))]
 fn nodes_of(n: u32) -> usize
     requires { n ≤ 10 }
     ensures power { result ≡ 2 ^ n }
@@ -32,72 +34,77 @@ fn nodes_of(n: u32) -> usize
     1 << n
 }
 
-// The link word of node a in a record of that many nodes.
-#[tactic(auto, unfolding(crate::specs::Open::word))]
-fn link(bytes: &[u8], nodes: usize, a: usize) -> u16
-    requires { (length bytes.now ≡ 5 + 3 * nodes) × (a < nodes) }
-    ensures { result ≡ word bytes.now (5 + nodes + 2 * a) }
-{
-    let at = 5 + nodes + 2 * a;
-    u16::from_le_bytes([bytes[at], bytes[at + 1]])
+// What the tests of a record have shown: its n, and a status byte and a link word, as its two bytes, of each node.
+#[derive(Drop)]
+struct Parts<'a> {
+    n: u32,
+    status: &'a [u8],
+    links: &'a [[u8; 2]],
+    ghost small: { n ≤ 10 },
+    ghost status_sized: { length status.now ≡ 2 ^ n },
+    ghost links_sized: { length links.now ≡ 2 ^ n },
 }
 
-// Whether every link word of a record of that many nodes is below their number.
-fn narrow_links(bytes: &[u8], nodes: usize) -> bool
-    requires { (nodes ≡ 2 ^ n_in bytes.now) × (length bytes.now ≡ 5 + 3 * nodes) }
-    ensures { result ≡ narrow (n_in bytes.now) (links_in bytes.now) }
-{
-    // A loop, since `all` over the same range takes half as long again.
-    for a in 0..nodes {
-        if nodes <= usize::from(link(bytes, nodes, a)) {
-            return false;
-        }
+impl<'a> Parts<'a> {
+    ghost use Rattle.record.specs.Parts.{parted};
+
+    // The parts of a record. Its tests come first, those of the slices lent for it among them.
+    #[tactic(auto, using(crate::proofs::Refusals::record_tests), unfolding(crate::specs::Open::open_refusal))]
+    fn of(bytes: &'a [u8], status: &[u8], links: &[u16]) -> Result<Parts<'a>, Refusal>
+        ensures { saying parted result ≡ unless (open_refusal bytes.now status.now links.now) (accepted (fields bytes.now)) }
+    {
+        Refusal::Malformed.unless(5 <= bytes.len())?;
+        let length = usize::from(word_at(bytes, 0));
+        Refusal::Malformed.unless(length == bytes.len() - 2)?;
+        Refusal::Malformed.unless(word_at(bytes, 2) == 1)?;
+        let n = u32::from(bytes[4]);
+        Refusal::Dimension.unless(report::dimension(n))?;
+        let nodes = nodes_of(n);
+        Refusal::Malformed.unless(length == 3 + 3 * nodes)?;
+        Refusal::Length.unless(nodes <= status.len() && nodes <= links.len())?;
+        let (_, rest) = bytes.split_at(5);
+        let (status, words) = rest.split_at(nodes);
+        let (links, _) = words.as_chunks();
+        let parts = Parts { n, status, links };
+        Refusal::LinkWord.unless(parts.is_narrow())?;
+        Ok(parts)
     }
-    true
-}
 
-// What is tested before anything is written.
-#[tactic(auto, using(cube::proofs::Refusals::tests_in_turn, report::proofs::Laws::dimension_range), unfolding(crate::specs::Open::open_refusal))]
-fn tested(bytes: &[u8], status: &[u8], links: &[u16]) -> Result<(), Refusal>
-    ensures { refused_by result ≡ open_refusal bytes.now status.now links.now }
-{
-    Refusal::Malformed.unless(5 <= bytes.len())?;
-    let length = usize::from(word_at(bytes, 0));
-    Refusal::Malformed.unless(length == bytes.len() - 2)?;
-    Refusal::Malformed.unless(word_at(bytes, 2) == 1)?;
-    let n = u32::from(bytes[4]);
-    Refusal::Dimension.unless(report::dimension(n))?;
-    let nodes = nodes_of(n);
-    Refusal::Malformed.unless(length == 3 + 3 * nodes)?;
-    Refusal::Length.unless(nodes <= status.len() && nodes <= links.len())?;
-    Refusal::LinkWord.unless(narrow_links(bytes, nodes))
-}
+    // Whether every link word is below the number of nodes. For speed they are taken together, as one mask of what any marks.
+    fn is_narrow(&self) -> bool
+        ensures { result ≡ narrow self.now.n (words_in self.now.links.now) }
+    {
+        let marked = self
+            .links
+            .iter()
+            .fold(0, |marked, pair| marked | u16::from_le_bytes(*pair));
+        usize::from(marked) < self.status.len()
+    }
 
-// Copies the link words of a record to the places lent for them, one for each node.
-#[tactic(auto, using(cube::proofs::Table::written_none, cube::proofs::Table::written_next, cube::proofs::Table::written_all, crate::proofs::Fields::link_at), unfolding(crate::specs::Open::links_in))]
-fn write_links(bytes: &[u8], links: &mut [u16])
-    requires { (length links.old ≡ 2 ^ n_in bytes.now) × (length bytes.now ≡ 5 + 3 * length links.old) }
-    ensures { links.new ≡ links_in bytes.now }
-{
-    let nodes = links.len();
-    for (a, word) in links.iter_mut().enumerate() {
-        *word = link(bytes, nodes, a);
+    // Copies the link words to the places lent for them, one for each node.
+    #[tactic(auto, using(crate::proofs::Words::in_turn), unfolding(crate::specs::Open::word))]
+    fn write_links(&self, links: &mut [u16])
+        requires { length links.old ≡ length self.now.links.now }
+        ensures { links.new ≡ words_in self.now.links.now }
+    {
+        for (a, word) in links.iter_mut().enumerate() {
+            *word = u16::from_le_bytes(self.links[a]);
+        }
     }
 }
 
 // Reads a record: gives its n back, and writes its status bytes and link words into the first 2^n places of the lent slices.
-#[tactic(auto, using(crate::proofs::Refusals::reading, cube::proofs::Refusals::refusal_or_answer), unfolding(crate::specs::Open::opened, crate::specs::Open::status_opened, crate::specs::Open::links_opened, crate::specs::Open::status_in))]
+#[tactic(auto, using(crate::proofs::Refusals::after_tests), unfolding(crate::specs::Open::opened, crate::specs::Open::status_opened, crate::specs::Open::links_opened))]
 pub fn open(bytes: &[u8], status: &mut [u8], links: &mut [u16]) -> Result<u32, Refusal>
     ensures answer { said result ≡ opened bytes.now status.old links.old }
     ensures boards { status.new ≡ status_opened bytes.now status.old links.old }
     ensures words { links.new ≡ links_opened bytes.now status.old links.old }
 {
-    tested(bytes, status, links)?;
-    let n = u32::from(bytes[4]);
-    let nodes = nodes_of(n);
-    status[..nodes].copy_from_slice(&bytes[5..5 + nodes]);
-    write_links(bytes, &mut links[..nodes]);
-    Ok(n)
+    let parts = Parts::of(bytes, status, links)?;
+    let nodes = parts.status.len();
+    status[..nodes].copy_from_slice(parts.status);
+    parts.write_links(&mut links[..nodes]);
+    Ok(parts.n)
 }
 
 // For every input the contract of `open` allows one answer; the lent slices are given by `status_opened` and `links_opened`.

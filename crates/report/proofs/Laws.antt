@@ -16,7 +16,7 @@ use Rattle.cube.specs.Bits.{bit, flip}
 use Rattle.cube.specs.Count.{pack}
 use Rattle.cube.proofs.Bits.{bit_zero, bit_of_or}
 use Rattle.cube.proofs.Count.{pack_own, pack_cong, bit_pack, flip_twice}
-use Rattle.cube.proofs.Order.{lt_or_ge}
+use Rattle.std.proofs.lemmas.Bool.{cases_lt}
 use Rattle.report.specs.Class.{class_of, is_working}
 use Rattle.report.specs.Report.{works, joint, cut, SeenFromBothEnds, narrow, dimension}
 
@@ -49,7 +49,7 @@ cut_other_end links a i =
 
 -- a word of 16 bits is below 2^n exactly if it is below the lesser of 2^n and 2^16
 pub word_limit : (n w : ℕ) → w < 2 ^ 16 → ltb w (2 ^ n) ≡ ltb w (2 ^ min n 16)
-word_limit n w h = ⊎_elim small large (lt_or_ge n 16)
+word_limit n w h = ⊎_elim small large (cases_lt n 16)
   where
     small : n < 16 → ltb w (2 ^ n) ≡ ltb w (2 ^ min n 16)
     small l = ap (λ (k : ℕ). ltb w (2 ^ k)) (let e : n ≡ min n 16 = omega arith in e)

@@ -9,7 +9,7 @@ use borrow.Author.Tests.{not-false, eqb-true, ltb-true, lt-ltb, le-ltb}
 use lib.Bits.{bit_xor, xor_lt}
 use lib.Dec.{ltb}
 use lib.ListN.{length}
-use Rattle.cube.proofs.Order.{lt_or_ge}
+use Rattle.std.proofs.lemmas.Bool.{cases_lt}
 use Rattle.cube.proofs.Count.{xor_twice}
 use Rattle.cube.proofs.Reply.{passed, refusal_le}
 use Rattle.report.specs.Report.{Report, cube, dimension, sized, all_sized, within}
@@ -27,17 +27,17 @@ pub record Clear (R : Report) (vectors : List ℕ) (a b d : ℕ) : Type 0 where
 -- a relative address lies in the cube exactly if what lies at it from a node does
 inside : (n a nav : ℕ) → (within n a && within n nav) ≡ (within n a && within n (bit_xor a nav))
 unfolding within
-inside n a nav = ⊎_elim node none (lt_or_ge a (2 ^ n))
+inside n a nav = ⊎_elim node none (cases_lt a (2 ^ n))
   where
     same : a < 2 ^ n → nav < 2 ^ n ⊎ 2 ^ n ≤ nav → ltb nav (2 ^ n) ≡ ltb (bit_xor a nav) (2 ^ n)
     same h (inl l) = lt-ltb nav (2 ^ n) l ∙ sym (lt-ltb (bit_xor a nav) (2 ^ n) (xor_lt n a nav h l))
     same h (inr g) = le-ltb nav (2 ^ n) g ∙ sym (le-ltb (bit_xor a nav) (2 ^ n) (⊎_elim
         (λ (l : bit_xor a nav < 2 ^ n). let back : nav < 2 ^ n = (rw (xor_twice a nav) at (xor_lt n a (bit_xor a nav) h l)) in absurd (omega (arith, back, g)))
         (λ (k : 2 ^ n ≤ bit_xor a nav). k)
-        (lt_or_ge (bit_xor a nav) (2 ^ n))))
+        (cases_lt (bit_xor a nav) (2 ^ n))))
 
     node : a < 2 ^ n → (ltb a (2 ^ n) && ltb nav (2 ^ n)) ≡ (ltb a (2 ^ n) && ltb (bit_xor a nav) (2 ^ n))
-    node h = ap (λ (t : Bool). ltb a (2 ^ n) && t) (same h (lt_or_ge nav (2 ^ n)))
+    node h = ap (λ (t : Bool). ltb a (2 ^ n) && t) (same h (cases_lt nav (2 ^ n)))
 
     none : 2 ^ n ≤ a → (ltb a (2 ^ n) && ltb nav (2 ^ n)) ≡ (ltb a (2 ^ n) && ltb (bit_xor a nav) (2 ^ n))
     none h = rw (le-ltb a (2 ^ n) h)

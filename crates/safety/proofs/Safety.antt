@@ -1,9 +1,10 @@
 -- The laws of Wu's Definition 1: one recurrence gives every bit, and what the table of vectors holds.
 use mathlib.Core.Path.{◌≡◌, refl, ap, ap₂, sym, ◌∙◌}
-use mathlib.Core.Bool.{Bool, true, false, not, ◌&&◌, and-true, false≢true}
+use mathlib.Core.Bool.{Bool, true, false, not, ◌&&◌, and-true}
 use Prim.Native.Nat.{ℕ, zero, suc, ◌+◌, ◌-◌, ◌*◌, ◌^◌, ◌≤◌, ◌<◌}
 use native.Mathlib.Omega.{arith}
 use borrow.Author.Tests.{lt-ltb, le-ltb, le-leb, lt-leb, leb-false, not-true}
+use Rattle.std.proofs.lemmas.Bool.{and_parts}
 use lib.Dec.{leb, ltb}
 use lib.ListN.{get_or}
 use Rattle.cube.specs.Bits.{bit, flip, weight}
@@ -36,11 +37,6 @@ pub recurrence : Recurrence
 unfolding safe supported registered
 recurrence C zero a h = ap (λ (b : Bool). C.works a && not b) (sound_links (C.cut a) C.dim h)
 recurrence C (suc k) a h = refl
-
-both_true : (a b : Bool) → (a && b) ≡ true → (a ≡ true) × (b ≡ true)
-both_true true true e = (refl, refl)
-both_true true false e = absurd (false≢true e)
-both_true false b e = absurd (false≢true e)
 
 -- bits that agree at a's neighbours support the same
 pub supported_cong : (C : Cube) (p q : ℕ → Bool) (k a : ℕ) → ((i : ℕ) → i < C.dim → p (flip a (suc i)) ≡ q (flip a (suc i)))
@@ -77,14 +73,14 @@ enough C bits k a h = ap not (lt-leb _ _ h)
 -- a board with a bit from 1 set is working
 pub safe_works : (C : Cube) (k a : ℕ) → safe C (suc k) a ≡ true → C.works a ≡ true
 unfolding safe
-safe_works C zero a e = (both_true (C.works a) _ e).0
-safe_works C (suc k) a e = (both_true (C.works a) _ e).0
+safe_works C zero a e = (and_parts (C.works a) _ e).0
+safe_works C (suc k) a e = (and_parts (C.works a) _ e).0
 
 -- a board with bit k + 1 set has more than n − (k + 1) neighbours registered with bit k
 pub safe_sum : (C : Cube) (k a : ℕ) → 0 < C.dim → safe C (suc k) a ≡ true → C.dim - suc k < count (registered C.cut (safe C k) a) C.dim
 unfolding supported
 safe_sum C k a h e =
-    leb-false _ _ (not-true _ (both_true (C.works a) _ (sym (recurrence C k a h) ∙ e)).1)
+    leb-false _ _ (not-true _ (and_parts (C.works a) _ (sym (recurrence C k a h) ∙ e)).1)
 
 -- a board with its own bit of its distance k + 1 has a preferred neighbour registered with bit k
 pub safe_preferred : (C : Cube) (k a nav : ℕ) → 0 < C.dim → nav < 2 ^ C.dim → weight nav ≡ suc k → safe C (suc k) a ≡ true

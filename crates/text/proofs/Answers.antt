@@ -5,9 +5,11 @@ use Prim.Native.Nat.{ℕ, zero, suc, ◌^◌, ◌≤◌, ◌<◌}
 use native.Mathlib.Omega.{arith}
 use borrow.Author.Tests.{lt-ltb, le-ltb}
 use lib.ListN.{length, take, drop, length-append}
+use Rattle.std.proofs.Common.{length-take-le}
 use lib.Pow.{pow_mono}
 use lib.Seq.{take_at}
-use Rattle.cube.specs.Reply.{refused, accepted}
+use Rattle.cube.specs.Reply.{Reply, refused, accepted}
+use Rattle.cube.proofs.Reply.{refused_accepted}
 use Rattle.report.specs.Report.{Report, report, cube}
 use Rattle.safety.specs.Safety.{bits_of}
 use Rattle.record.specs.Open.{n_in, status_in, links_in, open_refusal, opened, status_opened, links_opened}
@@ -16,7 +18,7 @@ use Rattle.record.proofs.Refusals.{readable, after_reading, after_refusal}
 use Rattle.lines.specs.Text.{spell, titled, joined}
 use Rattle.lines.proofs.Text.{length_titled, length_joined}
 use Rattle.text.specs.Listing.{line_of, cube_text, listed, listing, places}
-use Rattle.text.specs.Fit.{Fits}
+use Rattle.text.specs.Fit.{Fits, Fit, listed_of}
 use Rattle.text.proofs.Lines.{length_header, length_line}
 
 -- what is known of an accepted record: its fields stand at the start of the slices, and Fill accepts them
@@ -53,7 +55,7 @@ read bytes n status links er es el = go (open_refusal bytes places places) refl
         })
     go (suc m) e =
         let after = after_refusal bytes places places (suc m) (sym e) (λ z. omega arith) in
-        absurd (let whole : accepted n ≡ refused (suc m) = er ∙ sym after.0 in let z : ◌≡◌ {A = ℕ} 0 1 = cc in omega arith)
+        absurd (refused_accepted (suc m) n (after.0 ∙ sym er))
 
 -- the text for over 4,096 bytes
 pub too_long : (bytes : List ℕ) → 4096 < length bytes → listing bytes ≡ listed (refused 10) places places
@@ -90,3 +92,16 @@ length_cube R fits =
       length_header R.dim fits.high,
       length_joined (line_of R.dim R.status bits) 24 (2 ^ R.dim) (λ a l. omega (arith, length_line R.dim R.status bits a (omega arith))),
     )
+
+-- so of whatever Open answers the text has room
+pub length_listed : (reply : Reply ℕ) (status links : List ℕ) → Fit reply status links → length (listed_of reply status links) ≤ 24584
+unfolding listed
+length_listed (refused m) status links fit = (refused_text m (omega (arith, fit))).1
+length_listed (accepted n) status links fit =
+    length_cube (report n (take (2 ^ n) status) (take (2 ^ n) links)) (record {
+      low = fit.low;
+      high = fit.high;
+      status_size = length-take-le (2 ^ n) status fit.status_room;
+      links_size = length-take-le (2 ^ n) links fit.links_room;
+      narrow_links = fit.narrow_links;
+    })

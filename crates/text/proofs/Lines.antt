@@ -2,13 +2,11 @@
 use mathlib.Core.Path.{◌≡◌, refl, ap, sym, ◌∙◌}
 use mathlib.Core.Bool.{Bool}
 use mathlib.Core.List.{List, [], ◌∷◌, ◌++◌}
-use Prim.Native.Nat.{ℕ, zero, suc, ◌+◌, ◌*◌, ◌%◌, ◌^◌, ◌≤◌, ◌<◌}
-use native.Mathlib.Nat.{one-mul, mod-eq_of_lt}
+use Prim.Native.Nat.{ℕ, zero, suc, ◌+◌, ◌^◌, ◌≤◌, ◌<◌}
 use native.Mathlib.Numerals.{add-one}
 use native.Mathlib.Omega.{arith}
 use borrow.Author.Tests.{eq-eqb, le-leb}
 use lib.ListN.{length, get_or, take, drop, length-append, length-drop}
-use lib.Pow.{pow-lt}
 use lib.Seq.{take_at, get_or-take, length-take-le}
 use Rattle.cube.specs.Count.{one}
 use Rattle.cube.specs.Reply.{accepted, refusal}
@@ -68,10 +66,6 @@ length_line n status bits a h = simp length-append (omega (arith, length_decimal
 -- the header of a cube
 pub length_header : (n : ℕ) → n ≤ 10 → length (titled (spell "cube") n) ≤ 8
 length_header n h = length_titled (spell "cube") n 1 (omega arith)
-
--- how many nodes there are, by a shift: no bit is shifted out
-pub nodes_of : (n : ℕ) → n ≤ 10 → 1 * 2 ^ n % 18446744073709551616 ≡ 2 ^ n
-nodes_of n h = rw one-mul (mod-eq_of_lt (pow-lt {i = n} {j = 64} (omega arith)))
 
 module _ (R : Report) (fits : Fits R) (vs : List ℕ) where
   -- Fill accepts the report, the vectors having room

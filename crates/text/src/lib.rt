@@ -104,7 +104,7 @@ fn put_cube(page: &mut Page, report: &Report)
 }
 
 // What Open reads of all of standard input; over 4,096 bytes are refused by 10.
-// The crate program's `open` has this test and call for the dimension alone; one function for both has two clauses more: no plainer.
+// The programs' `open` makes this test and call for the dimension alone; one function for both, with lent room, has two clauses more: no plainer.
 fn opened<'a>(
     bytes: &[u8],
     status: &'a mut [u8; 1024],

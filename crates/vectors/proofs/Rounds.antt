@@ -1,6 +1,6 @@
 -- The laws of Fill's rounds: in the midst of round k the boards below j have bits 1 to k + 1, the others bits 1 to k.
 use mathlib.Core.Path.{◌≡◌, refl, ap, ap₂, sym, ◌∙◌}
-use mathlib.Core.Bool.{Bool, true, false, ◌&&◌}
+use mathlib.Core.Bool.{Bool, true, ◌&&◌}
 use mathlib.Core.Logic.{⊎_elim}
 use mathlib.Core.List.{List, ◌++◌}
 use Rattle.std.proofs.lemmas.List.{take_at, take-replicate}
@@ -15,9 +15,9 @@ use lib.Seq.{get_or-set_same, get_or-set_other}
 use Rattle.cube.specs.Bits.{bit, flip}
 use Rattle.cube.specs.Count.{one, pack, count}
 use Rattle.cube.specs.Table.{table}
-use Rattle.cube.proofs.Order.{lt_or_ge, eq_or_ne}
+use Rattle.std.proofs.lemmas.Bool.{cases_lt, cases_eq}
 use Rattle.cube.proofs.Bits.{flip_lt}
-use Rattle.cube.proofs.Count.{one_le, one_eqb, bit_pack, pack_lt, pack_cong, pack_zero, one_shift}
+use Rattle.cube.proofs.Count.{one_le, one_eqb, one_is, bit_pack, pack_lt, pack_cong, pack_zero, one_shift}
 use Rattle.cube.proofs.Table.{length_table, get_or_table, table_ext}
 use Rattle.report.specs.Health.{Cube}
 use Rattle.report.specs.Report.{Report, works, cut, cube, narrow}
@@ -51,7 +51,7 @@ midst_step C k j vs m h w e =
     record {
       long = length-set vs j w ∙ m.long;
       below = λ b l. ⊎_elim (λ (s : b ≡ j). ap (λ (x : ℕ). get_or (set vs j w) x 0) s ∙ get_or-set_same vs j w 0 (omega (arith, m.long)) ∙ e ∙ ap (up_to C (suc k)) (sym s))
-          (λ (ne : b ≡ j → ⊥). get_or-set_other vs j b w 0 ne ∙ m.below b (omega (arith, ne))) (eq_or_ne b j);
+          (λ (ne : b ≡ j → ⊥). get_or-set_other vs j b w 0 ne ∙ m.below b (omega (arith, ne))) (cases_eq b j);
       above = λ b l g. get_or-set_other vs j b w 0 (λ s. omega arith) ∙ m.above b (omega arith) g;
     }
 
@@ -89,7 +89,7 @@ shown_digit bytes d a = sym (one_eqb (get_or bytes a 0) (omega (arith, d a)))
 -- the bytes that show a bit of the vectors
 pub digits_of : (vs : List ℕ) (k m : ℕ) → Digits (table (digit vs k) m)
 unfolding digit
-digits_of vs k m a = ⊎_elim inside past (lt_or_ge a m)
+digits_of vs k m a = ⊎_elim inside past (cases_lt a m)
   where
     inside : a < m → get_or (table (digit vs k) m) a 0 ≤ 1
     inside l = le_trans (le_of_eq (get_or_table (digit vs k) m a l)) (one_le (own vs k a))
@@ -99,11 +99,7 @@ digits_of vs k m a = ⊎_elim inside past (lt_or_ge a m)
 
 shown_of : (vs : List ℕ) (k m a : ℕ) → a < m → shown (table (digit vs k) m) a ≡ own vs k a
 unfolding shown digit
-shown_of vs k m a l = ap (λ (x : ℕ). eqb x 1) (get_or_table (digit vs k) m a l) ∙ back (own vs k a)
-  where
-    back : (b : Bool) → eqb (one b) 1 ≡ b
-    back true = refl
-    back false = refl
+shown_of vs k m a l = ap (λ (x : ℕ). eqb x 1) (get_or_table (digit vs k) m a l) ∙ one_is (own vs k a)
 
 -- after k rounds the own bit k is that of Definition 1
 after_own : (C : Cube) (k b : ℕ) → b < 2 ^ C.dim → own (after C k) k b ≡ safe C k b
@@ -129,7 +125,7 @@ unfolding supported
 bit_by_sum C bits k a s e =
     ⊎_elim (λ (h : C.dim - (k + 1) < s). ap bool_byte (lt-ltb _ _ h) ∙ sym (ap one (enough C bits (suc k) a (omega arith))))
     (λ (h : s ≤ C.dim - (k + 1)). ap bool_byte (le-ltb _ _ h) ∙ sym (ap one (too_few C bits (suc k) a (omega arith))))
-    (lt_or_ge (C.dim - (k + 1)) s)
+    (cases_lt (C.dim - (k + 1)) s)
 
 -- before the first round every byte is 1
 pub digits_first : (vs : List ℕ) (m : ℕ) → replicate m 1 ≡ table (digit vs 0) m

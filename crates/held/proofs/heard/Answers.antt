@@ -1,7 +1,7 @@
 -- `held::heard` meets its contract.
 use mathlib.Core.Path.{◌≡◌, ap, sym, ◌∙◌}
 use mathlib.Core.Bool.{◌&&◌, and-eq-true_iff}
-use Prim.Native.Nat.{ℕ, ◌^◌, ◌≤◌, ◌<◌}
+use Prim.Native.Nat.{ℕ, ◌^◌}
 use borrow.Author.Tests.{eqb-true, leb-true}
 use lib.Dec.{eqb, leb}
 use lib.ListN.{length}
@@ -13,16 +13,11 @@ use Rattle.held.proofs.Held.{fits_at, reach}
 use Rattle.held.proofs.heard.Goals as goal
 use Rattle.held.proofs.heard.Goals.{Else-not-fits}
 
--- past the first test the sizes are known
-known : (c : Else-not-fits) → (c.args.report.now.n ≤ 10) × (c.args.a.0 < 2 ^ c.args.report.now.n) × (length c.args.report.now.links.now ≡ 2 ^ c.args.report.now.n)
-unfolding fits
-known c = fits_at c.args.report.now.n c.args.report.now.links.now c.args.a.0 (sym c.fits.ensures ∙ c.if-not-fits.false)
-
--- so the second test is the definition's
+-- past the first test the sizes are known, so the second test is the definition's
 room : (c : Else-not-fits)
     → (eqb (length c.args.vectors.now) (2 ^ c.args.report.now.n) && leb c.args.k 16)
     ≡ (eqb (length c.args.vectors.now) (length c.args.report.now.links.now) && leb c.args.k 16)
-room c = ap (λ (m : ℕ). eqb (length c.args.vectors.now) m && leb c.args.k 16) (sym (known c).2)
+room c = ap (λ (m : ℕ). eqb (length c.args.vectors.now) m && leb c.args.k 16) (sym (fits_at _ _ _ _ c.fits.ensures c.if-not-fits.false).2)
 
 pub returns-then-not-fits : goal.returns-then-not-fits
 unfolding heard fits
@@ -35,7 +30,7 @@ returns-then-not-vectors-links c =
 
 pub mask_of-requires : goal.mask_of-requires
 mask_of-requires c =
-    let k = known (goal.at.mask_of-requires c).Else-not-fits in
+    let k = fits_at _ _ _ _ c.fits.ensures c.if-not-fits.false in
     let q = (and-eq-true_iff _ _).0 c.if-not-vectors-links.false in record {
       small = k.0;
       callable = λ i l.

@@ -7,7 +7,7 @@ use Prim.Native.Nat.{ℕ, ◌^◌, ◌<◌, ◌≤◌}
 use native.Mathlib.Omega.{arith}
 use lib.ListN.{get_or}
 use Rattle.cube.specs.Table.{table}
-use Rattle.cube.proofs.Order.{lt_or_ge}
+use Rattle.std.proofs.lemmas.Bool.{cases_lt}
 use Rattle.cube.proofs.Table.{get_or_table, length_table}
 use Rattle.report.specs.Report.{works}
 use Rattle.report.specs.Class.{class_of}
@@ -30,7 +30,7 @@ lost n sweep log a none =
     ⊎_elim
     (λ (h : a < 2 ^ n). byte_zero _ a (get_or_table (tells sweep log) (2 ^ n) a h ∙ unheard sweep log a none))
     (λ (h : 2 ^ n ≤ a). works_past _ a (omega (arith, length_table (tells sweep log) (2 ^ n))))
-    (lt_or_ge a (2 ^ n))
+    (cases_lt a (2 ^ n))
 
 pub returns : goal.returns
 unfolding UnheardIsLost

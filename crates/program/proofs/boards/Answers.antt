@@ -1,13 +1,13 @@
 -- `program::boards` meets its contract: up to 10 no bit is shifted out.
 use mathlib.Core.Path.{◌≡◌}
 use Prim.Native.Nat.{ℕ, ◌*◌, ◌%◌, ◌^◌, ◌≤◌}
-use native.Mathlib.Nat.{one-mul, mod-eq_of_lt}
 use native.Mathlib.Omega.{arith}
-use lib.Pow.{pow-lt, pow_mono}
+use lib.Pow.{pow_mono}
+use Rattle.std.proofs.lemmas.Nat.{one_shl}
 use Rattle.program.proofs.boards.Goals as goal
 
 shifted : (n : ℕ) → n ≤ 10 → 1 * 2 ^ n % 18446744073709551616 ≡ 2 ^ n
-shifted n h = rw one-mul (mod-eq_of_lt (pow-lt {i = n} {j = 64} (omega arith)))
+shifted n h = one_shl n 64 (omega arith)
 
 pub returns-clause-few : goal.returns-clause-few
 returns-clause-few c =

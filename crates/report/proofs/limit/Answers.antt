@@ -1,8 +1,8 @@
 -- `report::limit` meets its contract.
 use Prim.Native.Nat.{min}
 use native.Mathlib.Omega.{arith}
-use Rattle.cube.proofs.Bits.{pow_shift}
+use Rattle.std.proofs.lemmas.Nat.{one_shl}
 use Rattle.report.proofs.limit.Goals as goal
 
 pub returns : goal.returns
-returns c = rw c.min.ensures (pow_shift (min c.args.n 16) 32 (omega arith))
+returns c = rw c.min.ensures (one_shl (min c.args.n 16) 32 (omega arith))

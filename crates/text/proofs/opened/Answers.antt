@@ -6,7 +6,7 @@ use borrow.Author.Tests.{leb-true, leb-false}
 use lib.Pow.{pow_mono}
 use Rattle.std.proofs.lemmas.Result.{err_from_is_err_and}
 use Rattle.cube.proofs.Refusals.{failed, holds}
-use Rattle.text.proofs.Lines.{nodes_of}
+use Rattle.std.proofs.lemmas.Nat.{one_shl}
 use Rattle.text.proofs.Answers.{too_long, not_read, text_read, Read, read}
 use Rattle.text.proofs.opened.Goals as goal
 use Rattle.text.proofs.opened.Goals.{In_ok-n}
@@ -33,7 +33,7 @@ overflow_shl-nodes c = omega (arith, (known c).fits.high)
 
 -- as many nodes as the shift gives
 shifted : (c : In_ok-n) → 1 * 2 ^ c.in_ok-n.n % 18446744073709551616 ≡ 2 ^ c.in_ok-n.n
-shifted c = nodes_of c.in_ok-n.n (known c).fits.high
+shifted c = one_shl c.in_ok-n.n 64 (omega (arith, (known c).fits.high))
 
 pub shared_ref_as_front-result : goal.shared_ref_as_front-result
 shared_ref_as_front-result c = omega (arith, shifted c, pow_mono {i = c.in_ok-n.n} {j = 10} (known c).fits.high)

@@ -43,10 +43,10 @@ first : (c : After-follow-first)
 first c =
     let R = reported c.args.self.now.report.now in
     let m : Message = record { node = c.args.s; nav = c.to.result } in
-    let e = (c.offer-offer.ensures.mask, c.offer-offer.ensures.hops) in
+    let e = c.offer-offer.ensures in
     let h = decide_hops _ _ _ _ _ c.requires.accepts in
-    sets_out R c.args.self.now.picks.now m c.args.d.0 _ c.requires.accepts c.follow-first.result _ _ c.to.ensures e
-    (omega (arith, c.if-offer-ne0.true)) (omega (arith, h, e.1, c.args.self.now.chosen)) (λ mask q. rw (sym (same_offer q)) c.follow-first.ensures)
+    sets_out R c.args.self.now.picks.now m c.args.d.0 _ c.requires.accepts c.follow-first.result _ _ c.to.ensures (e.mask, e.hops)
+    (omega (arith, c.if-offer-ne0.true)) (omega (arith, h, e.hops, c.args.self.now.chosen)) (λ mask q. rw (sym (same_offer q)) c.follow-first.ensures)
 
 pub bounds-path-1 : goal.bounds-path-1
 bounds-path-1 c =

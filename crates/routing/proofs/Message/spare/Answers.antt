@@ -2,11 +2,11 @@
 use mathlib.Core.Path.{ap, sym, ◌∙◌}
 use Prim.Native.Nat.{ℕ, ◌-◌}
 use native.Mathlib.Omega.{arith}
-use Rattle.cube.proofs.Bits.{pow_shift}
+use Rattle.std.proofs.lemmas.Nat.{one_shl}
 use Rattle.rules.proofs.Rules.{spare_rest}
 use Rattle.routing.proofs.Message.spare.Goals as goal
 
 pub returns : goal.returns
 returns c =
     let m = c.args.self.now in
-    ap (λ (x : ℕ). x - 1 - m.nav.0) (pow_shift m.report.now.n 16 (omega (arith, m.small))) ∙ sym (spare_rest m.report.now.n m.nav.0 m.nav_inside)
+    ap (λ (x : ℕ). x - 1 - m.nav.0) (one_shl m.report.now.n 16 (omega (arith, m.small))) ∙ sym (spare_rest m.report.now.n m.nav.0 m.nav_inside)
