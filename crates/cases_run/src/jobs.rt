@@ -18,7 +18,7 @@ fn listing(out: Stdout, record: &[u8]) {
     say::barred(out, &listed[..length]);
 }
 
-// What the job of a letter answers.
+// What the job of a letter, the first of a case, answers.
 fn answer(job: u8, given: &mut Given) -> Result<Answer, Refusal> {
     let (n, a, b) = (given.n, given.a, given.b);
     let bytes = given.bytes.items();

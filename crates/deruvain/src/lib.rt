@@ -77,7 +77,7 @@ pub extern "C" fn deruvain_fill(n: u32, status: &[u8], links: &[u16], vectors: &
     number(vectors::fill(&Report { n, status, links }, vectors))
 }
 
-// The number of a kind.
+// The number of a kind, for C. A kind holds an offer, so that `as` gives none.
 fn kind_number(kind: Kind) -> u32
     ensures { result ≡ kind_number (deciding.chosen kind) }
 {
@@ -102,7 +102,7 @@ fn accepted(kind: Kind, hops: u32) -> Answer
     }
 }
 
-// A refusal's numbers.
+// A refusal's numbers, in C's struct.
 fn refused(refusal: Refusal) -> Answer
     ensures { Says result (number_in refusal) 0 0 0 }
 {

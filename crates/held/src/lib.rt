@@ -36,7 +36,7 @@ pub fn own(vectors: &[u16], a: Node, k: u32) -> bool
     }
 }
 
-// The neighbour of a along dimension i + 1.
+// The neighbour of a along dimension i + 1. That i < 16 is asked here and twice below: a type for it would be made, and this proved, at each turn of a loop.
 fn across(a: usize, i: u32) -> usize
     requires { i < 16 }
     ensures { result ≡ flip a (suc i) }

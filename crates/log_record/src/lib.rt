@@ -25,7 +25,7 @@ pub fn is_future(age: u16) -> bool
     32768 <= age
 }
 
-// The status byte of an age, 0 for one from the future.
+// The status byte of an age; for one from the future 0, the byte of a board never heard.
 #[tactic(auto, using(log_rules::proofs::Bytes::byte_ahead, log_rules::proofs::Bytes::byte_aged))]
 pub fn byte_of(age: u16) -> u8
     ensures { result ≡ cond (leb 32768 age) 0 (age_byte age) }
@@ -37,7 +37,7 @@ pub fn byte_of(age: u16) -> u8
     }
 }
 
-// The younger of two status bytes, 0 being none.
+// The younger of two status bytes, 0 being that of a board never heard.
 #[tactic(auto, using(log_rules::proofs::Bytes::none_younger, log_rules::proofs::Bytes::younger_none, log_rules::proofs::Bytes::younger_min))]
 pub fn younger(b: u8, c: u8) -> u8
     ensures { result ≡ younger b c }

@@ -15,6 +15,7 @@ use cube::{Node, Refusal};
 use report::Report;
 
 // The faulty links of every node, over empty masks; most reports mark no link.
+// That a slice fits the report is asked here and three times below, of masks and of vectors: a struct would hold another slice each time.
 fn gather(report: &Report, masks: &mut [u16])
     requires { Fits (reported report.now) masks.old × (masks.old ≡ replicate (2 ^ report.now.n) 0) }
     ensures { masks.new ≡ all_faults report.now.n report.now.links.now }
@@ -27,7 +28,7 @@ fn gather(report: &Report, masks: &mut [u16])
     }
 }
 
-// Bit k of every vector, as a byte for each node.
+// Bit k of every vector, as a byte for each node. With `zip` in place of the index the iterators' own goals stayed open.
 fn show(vectors: &[u16], bytes: &mut [u8], k: u32)
     requires { (k ≤ 16) × (length bytes.old ≡ length vectors.now) }
     ensures { bytes.new ≡ table (digit vectors.now k) (length vectors.now) }
@@ -79,7 +80,7 @@ impl Seen<'_> {
         }
     }
 
-    // Bit k + 1 of node a by the bits k shown, as 1 or 0.
+    // Bit k + 1 of node a by the bits k shown, as the number that goes into its vector.
     fn next_bit(&self, a: usize, k: u32) -> u16
         requires { (k < self.now.report.n) × (a < 2 ^ self.now.report.n) }
         ensures { let C = seen self.now in
