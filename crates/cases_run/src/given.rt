@@ -60,7 +60,7 @@ where
     Some(value)
 }
 
-// The length of a list at the start of the rest of a line, taken off it; if there is none up to 8,191, it is 0 and the rest stays.
+// The length of a list at the start of the rest of a line, taken off it; if there is none up to 8,191, it is 0, as of a list left out, and the rest stays.
 fn size(rest: &mut &[u8]) -> usize
     ensures { result ≤ 8191 }
 {

@@ -18,7 +18,7 @@ fn listing(out: Stdout, record: &[u8]) {
     say::barred(out, &listed[..length]);
 }
 
-// What the job of a letter, the first of a case, answers.
+// What the job of a letter answers. The letter stays a byte: an enum would only add a match that makes it, no plainer.
 fn answer(job: u8, given: &mut Given) -> Result<Answer, Refusal> {
     let (n, a, b) = (given.n, given.a, given.b);
     let bytes = given.bytes.items();

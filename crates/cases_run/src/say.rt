@@ -86,7 +86,7 @@ where
     }
 }
 
-// Prints the memory that a job was lent.
+// Prints the memory that a job was lent, by the job's letter.
 pub(crate) fn memory(out: Stdout, job: u8, given: &Given) {
     match job {
         b'f' => left(out, "vectors", &given.vectors),

@@ -1,4 +1,5 @@
 -- The laws of single bits: of an exclusive or, of a remainder, of a power, of a neighbour.
+-- std has laws of its `bit_at`, which counts from 0, and `bit` from 1: a bridge between them would be as long.
 use mathlib.Core.Path.{◌≡◌, refl, ap, sym, ◌∙◌}
 use mathlib.Core.Bool.{Bool, true, false, not, xor, false≢true, ◌&&◌, ◌||◌, and-false}
 use Prim.Native.Nat.{ℕ, zero, suc, min, max, ◌+◌, ◌*◌, ◌-◌, ◌/◌, ◌%◌, ◌^◌, ◌≤◌, ◌<◌}

@@ -58,7 +58,7 @@ pub extern "C" fn deruvain_class(byte: u8) -> u32
     Class::from(byte) as u32
 }
 
-// The number of a job that answers nothing else: its refusal's, 0 for none.
+// The number, for C, of a job that answers nothing else: its refusal's, 0 for none.
 fn number(answer: Result<(), Refusal>) -> u32
     ensures { result ≡ refused_by answer }
 {

@@ -96,7 +96,7 @@ pub fn heard(report: &Report, vectors: &[u16], a: Node, k: u32) -> u16
     mask_of(report.n, |i| registered(links, vectors, a, i, k))
 }
 
-// The mask of the faulty links of node a; where that can't be read the empty one.
+// The mask of the faulty links of node a; where that can't be read the empty one: its caller has tested, and would only unwrap.
 pub fn faulty_links(report: &Report, a: Node) -> u16
     ensures { let links = report.now.links.now in
         result ≡ cond (fits report.now.n links a.0) (pack (cut links a.0) report.now.n) 0 }

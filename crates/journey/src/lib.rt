@@ -91,6 +91,7 @@ impl Way<'_> {
     {
         let offer = kind.offer();
         path[0] = s.0;
+        // No hops: at home, as `Kind::offer` says.
         if offer.hops != 0 {
             let start = Message {
                 node: s,

@@ -81,7 +81,7 @@ impl<'a> Parts<'a> {
         usize::from(marked) < self.status.len()
     }
 
-    // Copies the link words to the places lent for them, one for each node.
+    // Copies the link words to the places lent for them, one for each node. By place: over `zip` the proof did not close.
     #[tactic(auto, using(crate::proofs::Words::in_turn), unfolding(crate::specs::Open::word))]
     fn write_links(&self, links: &mut [u16])
         requires { length links.old ≡ length self.now.links.now }

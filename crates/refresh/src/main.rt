@@ -216,6 +216,7 @@ fn tell(rt: &HostRuntime, reading: Reading, sweep: u16, status: &[u8]) {
 
 // Prints the record with the log's status bytes in place of its own. No board is heard before the log speaks.
 fn refresh<'a>(rt: &HostRuntime, asked: &mut Asked, bytes: &'a mut [u8]) -> Result<(), Fault<'a>> {
+    // By `match`: a closure for `map_err` would take the bytes, which are written below.
     let n = match program::open(bytes) {
         Ok(n) => n,
         Err(refusal) => return Err(program::Fault::Record(Why { refusal, bytes }).into()),
@@ -295,6 +296,7 @@ fn run<'a>(
             with_log(rt, Asked { log, sweep }, bytes)
         }
         Err(_) => {
+            // Said here: a fault is displayed, and these bytes are no text.
             not_text(rt, name);
             Ok(())
         }

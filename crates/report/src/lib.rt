@@ -42,7 +42,7 @@ impl Class {
     }
 }
 
-// What a cabinet reports: its dimension, a status byte of each board, and a link word of each.
+// What a cabinet reports: its dimension, a status byte of each board, and a link word of each, in two slices as C lends them.
 #[derive(Clone, Copy)]
 pub struct Report<'a> {
     pub n: u32,
@@ -80,7 +80,7 @@ impl Report<'_> {
         has_node(self.n, a)
     }
 
-    // Whether the cube has relative address v.
+    // Whether the cube has relative address v. Beside `has_node`, as nodes and relative addresses are kept apart.
     pub fn has_address(&self, v: Nav) -> bool
         ensures { result ≡ within self.now.n v.0 }
     {

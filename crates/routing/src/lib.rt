@@ -149,7 +149,7 @@ impl Message<'_> {
     }
 }
 
-// What Decide tests before its rule, of a message at a for d.
+// What Decide tests before its rule, of a message at a for d. The vectors are no part of the report, since Fill and Journey write them.
 #[tactic(auto, using(cube::proofs::Refusals::tests_in_turn), unfolding(rules::specs::Refusals::decide_refusal))]
 pub fn tested(report: &Report, vectors: &[u16], a: Node, d: Node) -> Result<(), Refusal>
     ensures { refused_by result ≡ decide_refusal (reported report.now) vectors.now a.0 d.0 }

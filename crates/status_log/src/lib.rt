@@ -24,7 +24,7 @@ fn check_all(log: &[u8], n: u32) -> Result<(), Refusal>
     Ok(())
 }
 
-// What is tested before anything is written.
+// What is tested before anything is written. It takes what the C interface's jobs take; a struct for three functions would be no plainer.
 #[tactic(auto, using(crate::proofs::Refusals::log_in_turn), unfolding(report::specs::Report::sized))]
 fn tested(n: u32, log: &[u8], status: &[u8]) -> Result<(), Refusal>
     ensures { refused_by result ≡ log_refusal n log.now status.now }
@@ -72,6 +72,7 @@ pub fn refresh(n: u32, sweep: u16, log: &[u8], status: &mut [u8]) -> Result<usiz
 }
 
 // Refresh for a log that comes in parts of whole records: over status bytes that are all 0 before the first part.
+// A function of its own, since both are jobs of the C interface; what they share is `tested` and `put_all`.
 #[tactic(auto, using(crate::proofs::Refusals::log_answered), unfolding(log_rules::specs::Refresh::refreshed, log_rules::specs::Refresh::update_after))]
 pub fn update(n: u32, sweep: u16, part: &[u8], status: &mut [u8]) -> Result<usize, Refusal>
     ensures answer { said result ≡ refreshed n sweep part.now status.old }

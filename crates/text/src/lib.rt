@@ -25,7 +25,7 @@ pub fn buffer() -> [u8; LONGEST]
     [0; LONGEST]
 }
 
-// The name of a class between two spaces.
+// The name of a class between two spaces; not by `Display`, which has no clause on the bytes.
 #[tactic(auto, unfolding(crate::specs::Listing::spaced))]
 fn name_of(class: Class) -> &'static str
     ensures { result.now ≡ spec.spaced class }

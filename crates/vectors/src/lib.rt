@@ -15,7 +15,7 @@ use cube::{Node, Refusal};
 use report::Report;
 
 // The faulty links of every node, over empty masks; most reports mark no link.
-// That a slice fits the report is asked here and three times below, of masks and of vectors: a struct would hold another slice each time.
+// That a slice fits the report is asked here and three times below, of masks and of vectors: a struct would hold masks in two, vectors in the others.
 fn gather(report: &Report, masks: &mut [u16])
     requires { Fits (reported report.now) masks.old × (masks.old ≡ replicate (2 ^ report.now.n) 0) }
     ensures { masks.new ≡ all_faults report.now.n report.now.links.now }
