@@ -18,10 +18,10 @@ use std::str;
 fn check_all(log: &[u8], n: u32) -> Result<(), Refusal>
     ensures { refused_by result ≡ refusal (tests n (records log.now)) }
 {
-    for row in log.chunks(8) {
+    for row in log.chunks_exact(8) {
         log_record::check(row, n)?;
     }
-    Ok(())
+    Refusal::LogRecord.unless(log.len() % 8 == 0)
 }
 
 // What is tested before anything is written. It takes what the C interface's jobs take; a struct for three functions would be no plainer.
