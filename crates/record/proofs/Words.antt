@@ -1,4 +1,4 @@
--- The laws of link words as pairs of bytes.
+-- The laws of link words as pairs of bytes, and of bytes that are copied.
 use mathlib.Core.Path.{◌≡◌, refl, sym, ap, ◌∙◌}
 use mathlib.Core.Bool.{Bool, false, ◌&&◌, and-true, and-false, and_assoc}
 use mathlib.Core.List.{List, [], ◌∷◌}
@@ -94,7 +94,25 @@ pub words_written :
 words_written pairs old new k sized last e =
     written_all (number_at pairs) old new k last e ∙ ap (table (number_at pairs)) sized ∙ sym (words_table pairs)
 
--- what the check applies where words are stored in turn
+-- ---- bytes that are copied
+
+-- a byte of a list, by its place
+abbrev pub byte_at : List ℕ → ℕ → ℕ
+byte_at bytes a = get_or bytes a 0
+
+-- after the last store they are all there
+pub bytes_written :
+    (bytes old new : List ℕ) (k : ℕ) →
+    length old ≡ length bytes →
+    k ≡ length old →
+    new ≡ written (byte_at bytes) old k →
+    new ≡ bytes
+bytes_written bytes old new k sized last e =
+    written_all (byte_at bytes) old new k last e
+    ∙ ap (table (byte_at bytes)) sized
+    ∙ sym (table_ext (byte_at bytes) (length bytes) bytes refl (λ a h. refl))
+
+-- what the check applies where words or bytes are stored in turn
 pub ruleset in_turn = (written_none, written_next)
 
 -- ---- the bytes in pairs
