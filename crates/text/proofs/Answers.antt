@@ -1,14 +1,17 @@
 -- What Open answers over two slices of 1,024 places, and the text of its answer.
 use mathlib.Core.Path.{◌≡◌, refl, sym, ◌∙◌}
+use mathlib.Core.Bool.{Bool}
 use mathlib.Core.List.{List}
 use Prim.Native.Nat.{ℕ, zero, suc, ◌^◌, ◌≤◌, ◌<◌}
 use native.Mathlib.Omega.{arith}
 use borrow.Author.Tests.{lt-ltb, le-ltb}
 use lib.ListN.{length, take, drop, length-append}
-use Rattle.std.proofs.Common.{length-take-le}
 use lib.Pow.{pow_mono}
 use lib.Seq.{take_at}
 use Rattle.cube.specs.Reply.{Reply, refused, accepted}
+use Rattle.cube.specs.Refusals.{number_in}
+use Rattle.cube.specs.declared.refusal.Refusal.{Refusal}
+use Rattle.cube.specs.declared.refusal.Refusal.TheVariants.{Dimension, Length, LinkWord, Address, Source, Destination, NoRoute, NotBorneOut, NothingToOffer, Malformed, LogRecord, LogNode}
 use Rattle.cube.proofs.Reply.{refused_accepted}
 use Rattle.report.specs.Report.{Report, report, cube}
 use Rattle.safety.specs.Safety.{bits_of}
@@ -18,8 +21,8 @@ use Rattle.record.proofs.Refusals.{readable, after_reading, after_refusal}
 use Rattle.lines.specs.Text.{spell, titled, joined}
 use Rattle.lines.proofs.Text.{length_titled, length_joined}
 use Rattle.text.specs.Listing.{line_of, cube_text, listed, listing, places}
-use Rattle.text.specs.Fit.{Fits, Fit, listed_of}
-use Rattle.text.proofs.Lines.{length_header, length_line}
+use Rattle.text.specs.Fit.{Fits, Placed, Fit, listed_of}
+use Rattle.text.proofs.Lines.{length_header, length_line, take_whole}
 
 -- what is known of an accepted record: its fields stand at the start of the slices, and Fill accepts them
 pub record Read (bytes : List ℕ) (n : ℕ) (status links : List ℕ) : Type 0 where
@@ -80,17 +83,16 @@ pub refused_text : (m : ℕ) → m < 10000000000 → (titled (spell "refused") m
 unfolding listed
 refused_text m h = (refl, omega (arith, length_titled (spell "refused") m 9 h))
 
--- the text of an accepted report has room
-pub length_cube : (R : Report) → Fits R → length (listed (accepted R.dim) R.status R.links) ≤ 24584
-unfolding listed cube_text
-length_cube R fits =
-    let nodes = pow_mono {i = R.dim} {j = 10} fits.high in
-    let bits = bits_of (cube R) in
+-- the text of a cube has room
+pub length_cube : (n : ℕ) (status : List ℕ) (bits : ℕ → ℕ → Bool) → n ≤ 10 → length (cube_text n status bits) ≤ 24584
+unfolding cube_text
+length_cube n status bits h =
+    let nodes = pow_mono {i = n} {j = 10} h in
     omega (
       arith,
-      length-append (titled (spell "cube") R.dim) (joined (line_of R.dim R.status bits) (2 ^ R.dim)),
-      length_header R.dim fits.high,
-      length_joined (line_of R.dim R.status bits) 24 (2 ^ R.dim) (λ a l. omega (arith, length_line R.dim R.status bits a (omega arith))),
+      length-append (titled (spell "cube") n) (joined (line_of n status bits) (2 ^ n)),
+      length_header n h,
+      length_joined (line_of n status bits) 24 (2 ^ n) (λ a l. omega (arith, length_line n status bits a (omega arith))),
     )
 
 -- so of whatever Open answers the text has room
@@ -98,10 +100,31 @@ pub length_listed : (reply : Reply ℕ) (status links : List ℕ) → Fit reply 
 unfolding listed
 length_listed (refused m) status links fit = (refused_text m (omega (arith, fit))).1
 length_listed (accepted n) status links fit =
-    length_cube (report n (take (2 ^ n) status) (take (2 ^ n) links)) (record {
-      low = fit.low;
-      high = fit.high;
-      status_size = length-take-le (2 ^ n) status fit.status_room;
-      links_size = length-take-le (2 ^ n) links fit.links_room;
-      narrow_links = fit.narrow_links;
-    })
+    let R = report n (take (2 ^ n) status) (take (2 ^ n) links) in
+    length_cube n (take (2 ^ n) status) (bits_of (cube R)) fit.high
+
+-- a report that Fill accepts stands at the start of its own slices
+pub placed : (R : Report) → Fits R → Placed R.dim R.status R.links
+placed R fits =
+    record {
+      low = fits.low;
+      high = fits.high;
+      status_room = omega (arith, fits.status_size);
+      links_room = omega (arith, fits.links_size);
+      narrow_links = rw (take_whole R.links (2 ^ R.dim) fits.links_size) fits.narrow_links;
+    }
+
+-- every refusal's number is short
+pub short_number : (e : Refusal) → number_in e < 10000
+short_number Dimension = omega arith
+short_number Length = omega arith
+short_number LinkWord = omega arith
+short_number Address = omega arith
+short_number Source = omega arith
+short_number Destination = omega arith
+short_number NoRoute = omega arith
+short_number NotBorneOut = omega arith
+short_number NothingToOffer = omega arith
+short_number Malformed = omega arith
+short_number LogRecord = omega arith
+short_number LogNode = omega arith

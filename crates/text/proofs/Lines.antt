@@ -7,13 +7,14 @@ use native.Mathlib.Numerals.{add-one}
 use native.Mathlib.Omega.{arith}
 use borrow.Author.Tests.{eq-eqb, le-leb}
 use lib.ListN.{length, get_or, take, drop, length-append, length-drop}
-use lib.Seq.{take_at, get_or-take, length-take-le}
+use lib.Seq.{take_at, take-length, get_or-take, length-take-le}
 use Rattle.cube.specs.Count.{one}
 use Rattle.cube.specs.Reply.{accepted, refusal}
 use Rattle.cube.proofs.Reply.{kept_none, unless_none}
 use Rattle.cube.proofs.Table.{length_table}
 use Rattle.report.specs.Class.{class_of}
-use Rattle.report.specs.Report.{Report, cube, dimension, sized, all_sized}
+use Rattle.report.specs.Health.{Cube}
+use Rattle.report.specs.Report.{Report, report, cube, dimension, sized, all_sized}
 use Rattle.report.specs.declared.Class.{Class}
 use Rattle.report.specs.declared.Class.TheVariants.{Silent, Working, Late, Down, Empty}
 use Rattle.safety.specs.Safety.{bits_of, vector, vectors}
@@ -25,7 +26,7 @@ use Rattle.lines.specs.Put.{Puts}
 use Rattle.lines.specs.declared.Page.{Page}
 use Rattle.lines.proofs.Placing.{puts_then}
 use Rattle.lines.proofs.Text.{length_decimal, length_titled, joined_cong}
-use Rattle.text.specs.Fit.{held_bits, Fits}
+use Rattle.text.specs.Fit.{held_bits, Fits, listed_of}
 use Rattle.text.specs.Listing.{spaced, row, line, line_of, cube_text, listed}
 
 -- ---- rows of bits
@@ -96,15 +97,38 @@ module _ (R : Report) (fits : Fits R) (vs : List ℕ) where
         take_at new (drop k vs) (2 ^ R.dim) size ∙ full,
       )
 
-  module _ (full : take (2 ^ R.dim) vs ≡ vectors (cube R)) where
+-- a slice of as many places is all taken
+pub take_whole : (xs : List ℕ) (k : ℕ) → length xs ≡ k → take k xs ≡ xs
+take_whole xs k e = rw (← e) (take-length xs)
+
+module _ (n : ℕ) (status links vs : List ℕ) where
+  -- the report at the start of the slices, as the mathematics sees it
+  abbrev C : Cube
+  C = cube (report n (take (2 ^ n) status) (take (2 ^ n) links))
+
+  module _ (full : take (2 ^ n) vs ≡ vectors C) where
     -- over Fill's vectors the boards hold the bits of Definition 1
-    filled_line : (a : ℕ) → a < 2 ^ R.dim → line_of R.dim R.status (held_bits vs) a ≡ line_of R.dim R.status (bits_of (cube R)) a
+    filled_line : (a : ℕ) → a < 2 ^ n → line_of n status (held_bits vs) a ≡ line_of n (take (2 ^ n) status) (bits_of C) a
     unfolding line_of line held_bits bits_of own cube
     filled_line a h =
-        let word : get_or vs a 0 ≡ get_or (vectors (cube R)) a 0 = sym (get_or-take (2 ^ R.dim) vs a 0 h) ∙ ap (λ (l : List ℕ). get_or l a 0) full in
-        rw (row_cong (held_bits vs a) (bits_of (cube R) a) R.dim (λ k l. rw word (own_safe (cube R) (suc k) a (omega arith) h)))
+        let word : get_or vs a 0 ≡ get_or (vectors C) a 0 = sym (get_or-take (2 ^ n) vs a 0 h) ∙ ap (λ (l : List ℕ). get_or l a 0) full in
+        rw (get_or-take (2 ^ n) status a 0 h, row_cong (held_bits vs a) (bits_of C a) n (λ k l. rw word (own_safe C (suc k) a (omega arith) h)))
 
     -- the header and the lines over Fill's vectors are the text of the cube
-    pub cube_listed : titled (spell "cube") R.dim ++ joined (line_of R.dim R.status (held_bits vs)) (2 ^ R.dim) ≡ listed (accepted R.dim) R.status R.links
+    pub cube_listed : titled (spell "cube") n ++ joined (line_of n status (held_bits vs)) (2 ^ n) ≡ listed_of (accepted n) status links
     unfolding listed cube_text
-    cube_listed = rw (joined_cong (line_of R.dim R.status (held_bits vs)) (line_of R.dim R.status (bits_of (cube R))) (2 ^ R.dim) filled_line)
+    cube_listed = rw (joined_cong (line_of n status (held_bits vs)) (line_of n (take (2 ^ n) status) (bits_of C)) (2 ^ n) filled_line)
+
+-- of a report that Fill accepts it is the whole slices that are listed
+module _ (R : Report) (fits : Fits R) where
+  whole : report R.dim (take (2 ^ R.dim) R.status) (take (2 ^ R.dim) R.links) ≡ R
+  whole = rw (take_whole R.status (2 ^ R.dim) fits.status_size, take_whole R.links (2 ^ R.dim) fits.links_size)
+
+  pub listed_whole : listed_of (accepted R.dim) R.status R.links ≡ listed (accepted R.dim) R.status R.links
+  listed_whole = rw (take_whole R.status (2 ^ R.dim) fits.status_size, take_whole R.links (2 ^ R.dim) fits.links_size)
+
+  pub report_listed :
+      (vs : List ℕ) →
+      take (2 ^ R.dim) vs ≡ vectors (cube R) →
+      titled (spell "cube") R.dim ++ joined (line_of R.dim R.status (held_bits vs)) (2 ^ R.dim) ≡ listed (accepted R.dim) R.status R.links
+  report_listed vs full = cube_listed R.dim R.status R.links vs (rw whole full) ∙ listed_whole

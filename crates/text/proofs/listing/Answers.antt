@@ -5,9 +5,12 @@ use native.Mathlib.Omega.{arith}
 use lib.ListN.{length}
 use Rattle.lines.specs.Put.{Puts}
 use Rattle.lines.proofs.Placing.{puts_whole}
+use Rattle.cube.specs.Refusals.{number_in}
+use Rattle.cube.specs.Reply.{refused, accepted}
 use Rattle.report.specs.Report.{reported}
-use Rattle.text.specs.Listing.{listing}
-use Rattle.text.proofs.Answers.{refused_text, length_cube}
+use Rattle.text.specs.Listing.{listing, places}
+use Rattle.text.proofs.Answers.{refused_text, length_listed, placed, short_number}
+use Rattle.text.proofs.Lines.{listed_whole}
 use Rattle.text.proofs.listing.Goals as goal
 use Rattle.text.proofs.listing.Goals.{Joined-opened, in-Ok, in-Err}
 
@@ -17,10 +20,14 @@ put c =
     elim c.match-opened.branch [
       | in-Ok w ↦
           (let read = w.in-Ok.ensures in
-          rw (w.page-is, read.1) (w.put_cube.ensures, length_cube (reported w.in-Ok.report) read.0))
+          let R = reported w.in-Ok.report in
+          let room = length_listed (accepted R.dim) R.status R.links (placed R read.0) in
+          rw (w.page-is, read.1) (w.put_cube.ensures, rw (listed_whole R read.0) at room))
       | in-Err w ↦
-          (let text = refused_text w.from.result (omega (arith, w.from.type_inv)) in
-          rw (w.page-is, w.in-Err.ensures, ← w.from.ensures) (rw text.0 at w.put_titled.ensures, text.1))
+          (let m = number_in w.in-Err.refusal in
+          let text = refused_text m (omega (arith, short_number w.in-Err.refusal)) in
+          let said = rw w.from.ensures at w.put_titled.ensures in
+          rw (w.page-is, w.in-Err.ensures) (rw text.0 at said, length_listed (refused m) places places (short_number w.in-Err.refusal)))
     ]
 
 pub returns : goal.returns
