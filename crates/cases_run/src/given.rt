@@ -74,45 +74,62 @@ fn size(rest: &mut &[u8]) -> usize
     }
 }
 
-// The list that a letter heads at the start of the rest of a line, taken off it; if there is none, it is empty and the rest stays.
-fn list_of<T: FromStr + Copy + From<u8>>(rest: &mut &[u8], head: u8) -> List<T>
+impl<T: FromStr + Copy + From<u8>> List<T>
 where
     T::Err: Drop,
 {
-    let mut list = List {
-        values: [T::from(LENT); 8192],
-        size: 0,
-    };
-    let Some(text) = rest.strip_prefix(&[b' ', head]) else {
-        return list;
-    };
-    *rest = text;
-    let size = size(rest);
-    list.size = size;
-    for place in list.values.iter_mut().take(size) {
-        match number(rest) {
-            Some(value) => *place = value,
-            None => break,
+    // No numbers, and 99s alone.
+    fn empty() -> List<T> {
+        List {
+            values: [T::from(LENT); 8192],
+            size: 0,
         }
     }
-    list
+
+    // Takes the list that a letter heads off the start of the rest of a line; if there is none, this stays empty and the rest stays.
+    fn read(&mut self, rest: &mut &[u8], head: u8) {
+        let Some(text) = rest.strip_prefix(&[b' ', head]) else {
+            return;
+        };
+        *rest = text;
+        let size = size(rest);
+        self.size = size;
+        for place in self.values.iter_mut().take(size) {
+            match number(rest) {
+                Some(value) => *place = value,
+                None => break,
+            }
+        }
+    }
 }
 
 impl Given {
-    // What the rest of a line gives, unless some of it is left over.
-    fn by(line: &[u8]) -> Option<Given> {
+    // What an empty line gives.
+    fn empty() -> Given {
+        Given {
+            n: 0,
+            a: 0,
+            b: 0,
+            bytes: List::empty(),
+            links: List::empty(),
+            vectors: List::empty(),
+            more: List::empty(),
+            path: List::empty(),
+        }
+    }
+
+    // Takes what the rest of a line gives, and says whether nothing of it is left over. In place, so that no list is moved.
+    fn read(&mut self, line: &[u8]) -> bool {
         let mut rest = line;
-        let given = Given {
-            n: number(&mut rest).unwrap_or(0),
-            a: number(&mut rest).unwrap_or(0),
-            b: number(&mut rest).unwrap_or(0),
-            bytes: list_of(&mut rest, b'b'),
-            links: list_of(&mut rest, b'l'),
-            vectors: list_of(&mut rest, b'v'),
-            more: list_of(&mut rest, b'm'),
-            path: list_of(&mut rest, b'w'),
-        };
-        if rest.is_empty() { Some(given) } else { None }
+        self.n = number(&mut rest).unwrap_or(0);
+        self.a = number(&mut rest).unwrap_or(0);
+        self.b = number(&mut rest).unwrap_or(0);
+        self.bytes.read(&mut rest, b'b');
+        self.links.read(&mut rest, b'l');
+        self.vectors.read(&mut rest, b'v');
+        self.more.read(&mut rest, b'm');
+        self.path.read(&mut rest, b'w');
+        rest.is_empty()
     }
 }
 
@@ -127,9 +144,11 @@ pub(crate) fn case(out: Stdout, line: &[u8]) {
         return say::say(out, b": malformed\n");
     };
     say::say(out, &line[..colon + 2]);
-    match Given::by(rest) {
-        Some(mut given) => jobs::run(out, *job, &mut given),
-        None => say::say(out, b"malformed"),
+    let mut given = Given::empty();
+    if given.read(rest) {
+        jobs::run(out, *job, &mut given);
+    } else {
+        say::say(out, b"malformed");
     }
     say::say(out, b"\n");
 }
