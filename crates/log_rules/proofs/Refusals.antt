@@ -21,6 +21,11 @@ pub malformed : (n : ℕ) (r : List ℕ) → well_formed r ≡ false → refusal
 unfolding tests refusal
 malformed n r e = rw e
 
+-- one that is well formed is refused by 12 where the cube lacks its node, and not at all where it has it
+pub by_node : (n : ℕ) (r : List ℕ) → well_formed r ≡ true → refusal (tests n (r ∷ [])) ≡ cond (not (within n (node_in r))) 12 0
+unfolding tests refusal
+by_node n r e = rw e
+
 -- the first of two numbers that is not 0
 abbrev pub first : ℕ → ℕ → ℕ
 first m later = cond (eqb m 0) later m
