@@ -22,7 +22,7 @@ use Rattle.lines.specs.Text.{spell, titled, joined}
 use Rattle.lines.proofs.Text.{length_titled, length_joined}
 use Rattle.text.specs.Listing.{line_of, cube_text, listed, listing, places}
 use Rattle.text.specs.Fit.{Fits, Placed, Fit, listed_of}
-use Rattle.text.proofs.Lines.{length_header, length_line, take_whole}
+use Rattle.text.proofs.Lines.{length_header, length_line, take_whole, listed_whole}
 
 -- what is known of an accepted record: its fields stand at the start of the slices, and Fill accepts them
 pub record Read (bytes : List ℕ) (n : ℕ) (status links : List ℕ) : Type 0 where
@@ -104,7 +104,7 @@ length_listed (accepted n) status links fit =
     length_cube n (take (2 ^ n) status) (bits_of (cube R)) fit.high
 
 -- a report that Fill accepts stands at the start of its own slices
-pub placed : (R : Report) → Fits R → Placed R.dim R.status R.links
+placed : (R : Report) → Fits R → Placed R.dim R.status R.links
 placed R fits =
     record {
       low = fits.low;
@@ -113,6 +113,12 @@ placed R fits =
       links_room = omega (arith, fits.links_size);
       narrow_links = rw (take_whole R.links (2 ^ R.dim) fits.links_size) fits.narrow_links;
     }
+
+-- so the text of the report has room
+pub length_report : (R : Report) → Fits R → length (listed (accepted R.dim) R.status R.links) ≤ 24584
+length_report R fits =
+    let room = length_listed (accepted R.dim) R.status R.links (placed R fits) in
+    rw (listed_whole R fits) at room
 
 -- every refusal's number is short
 pub short_number : (e : Refusal) → number_in e < 10000

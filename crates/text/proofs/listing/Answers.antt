@@ -6,11 +6,10 @@ use lib.ListN.{length}
 use Rattle.lines.specs.Put.{Puts}
 use Rattle.lines.proofs.Placing.{puts_whole}
 use Rattle.cube.specs.Refusals.{number_in}
-use Rattle.cube.specs.Reply.{refused, accepted}
+use Rattle.cube.specs.Reply.{refused}
 use Rattle.report.specs.Report.{reported}
 use Rattle.text.specs.Listing.{listing, places}
-use Rattle.text.proofs.Answers.{refused_text, length_listed, placed, short_number}
-use Rattle.text.proofs.Lines.{listed_whole}
+use Rattle.text.proofs.Answers.{refused_text, length_listed, length_report, short_number}
 use Rattle.text.proofs.listing.Goals as goal
 use Rattle.text.proofs.listing.Goals.{Joined-opened, in-Ok, in-Err}
 
@@ -20,9 +19,7 @@ put c =
     elim c.match-opened.branch [
       | in-Ok w ↦
           (let read = w.in-Ok.ensures in
-          let R = reported w.in-Ok.report in
-          let room = length_listed (accepted R.dim) R.status R.links (placed R read.0) in
-          rw (w.page-is, read.1) (w.put_cube.ensures, rw (listed_whole R read.0) at room))
+          rw (w.page-is, read.1) (w.put_cube.ensures, length_report (reported w.in-Ok.report) read.0))
       | in-Err w ↦
           (let m = number_in w.in-Err.refusal in
           let text = refused_text m (omega (arith, short_number w.in-Err.refusal)) in
