@@ -120,8 +120,8 @@ length_report R fits =
     let room = length_listed (accepted R.dim) R.status R.links (placed R fits) in
     rw (listed_whole R fits) at room
 
--- every refusal's number is short
-pub short_number : (e : Refusal) → number_in e < 10000
+-- no refusal's number is above 12
+pub short_number : (e : Refusal) → number_in e ≤ 12
 short_number Dimension = omega arith
 short_number Length = omega arith
 short_number LinkWord = omega arith

@@ -24,7 +24,7 @@ put c =
           (let m = number_in w.in-Err.refusal in
           let text = refused_text m (omega (arith, short_number w.in-Err.refusal)) in
           let said = rw w.from.ensures at w.put_titled.ensures in
-          rw (w.page-is, w.in-Err.ensures) (rw text.0 at said, length_listed (refused m) places places (short_number w.in-Err.refusal)))
+          rw (w.page-is, w.in-Err.ensures) (rw text.0 at said, length_listed (refused m) places places (omega (arith, short_number w.in-Err.refusal))))
     ]
 
 pub returns : goal.returns
