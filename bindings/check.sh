@@ -35,6 +35,11 @@ make_archive() {
     (cd "$root/crates/deruvain" && rt lib)
 }
 
+# So that it links where there is no C library.
+asks_for_memset() {
+    [ "$(nm -u "$archive" | awk 'NF == 2 { print $2 }')" = memset ]
+}
+
 c_example() {
     cc -std=c99 -pedantic -Wall -Wextra -Werror -I c c/example.c "$archive" -o "$built/example" &&
         "$built/example" >"$built/example.out" &&
@@ -57,6 +62,7 @@ run() {
 
 is_made || check "the archive is made" make_archive
 [ -x "$root/crates/listing/out/listing" ] || check "the program listing is made" "$root/deruvain" listing "$root/samples/four-boards.record"
+check "the archive asks for memset alone" asks_for_memset
 check "the C example prints c/example.out" c_example
 check "the C program of README.md prints what it says" c_of_the_readme
 check "the header serves C++" cxx_header
