@@ -35,7 +35,7 @@ make_archive() {
     (cd "$root/crates/deruvain" && rt lib)
 }
 
-# So that it links where there is no C library.
+# All that a program without a C library has to bring.
 asks_for_memset() {
     [ "$(nm -u "$archive" | awk 'NF == 2 { print $2 }')" = memset ]
 }

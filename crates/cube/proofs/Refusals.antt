@@ -2,7 +2,7 @@
 use mathlib.Core.Path.{◌≡◌, refl, sym, ap, ◌∙◌}
 use mathlib.Core.List.{List}
 use mathlib.Core.Bool.{Bool, true, false, not, cond}
-use Prim.Native.Nat.{ℕ, zero, suc}
+use Prim.Native.Nat.{ℕ, zero, suc, ◌≤◌}
 use native.Mathlib.Omega.{arith}
 use Rattle.std.specs.Prelude.{Result, Ok, Err, is_ok}
 use Rattle.cube.specs.Reply.{Reply, refused, accepted, unless, kept, OneAnswer}
@@ -30,20 +30,24 @@ pub of_test : (t : Bool) (r : Refusal) → refused_by (cond t (Ok tt) (Err r)) �
 of_test true r = refl
 of_test false r = refl
 
--- no refusal has the number 0
+-- the numbers are from 1 to 12
+pub number_range : (e : Refusal) → (1 ≤ number_in e) × (number_in e ≤ 12)
+number_range Dimension = (omega arith, omega arith)
+number_range Length = (omega arith, omega arith)
+number_range LinkWord = (omega arith, omega arith)
+number_range Address = (omega arith, omega arith)
+number_range Source = (omega arith, omega arith)
+number_range Destination = (omega arith, omega arith)
+number_range NoRoute = (omega arith, omega arith)
+number_range NotBorneOut = (omega arith, omega arith)
+number_range NothingToOffer = (omega arith, omega arith)
+number_range Malformed = (omega arith, omega arith)
+number_range LogRecord = (omega arith, omega arith)
+number_range LogNode = (omega arith, omega arith)
+
+-- so none is 0
 pub number_some : (e : Refusal) → number_in e ≡ 0 → ⊥
-number_some Dimension h = omega arith
-number_some Length h = omega arith
-number_some LinkWord h = omega arith
-number_some Address h = omega arith
-number_some Source h = omega arith
-number_some Destination h = omega arith
-number_some NoRoute h = omega arith
-number_some NotBorneOut h = omega arith
-number_some NothingToOffer h = omega arith
-number_some Malformed h = omega arith
-number_some LogRecord h = omega arith
-number_some LogNode h = omega arith
+number_some e h = absurd (omega (arith, (number_range e).0))
 
 -- what is answered after a refusal
 pub unless_refusal : {A : Type 0} (m : ℕ) (r : Reply A) (e : Refusal) → number_in e ≡ m → unless m r ≡ refused (number_in e)

@@ -1,5 +1,6 @@
 -- Why a job refuses, by number, and what the answer of a job that may refuse says.
-use Rattle.std.specs.Prelude.{ℕ, Result, Ok, Err}
+use Rattle.std.specs.Prelude.{ℕ, List, ◌++◌, codes, Result, Ok, Err}
+use Rattle.std.specs.Fmt.{decimal}
 use Rattle.cube.specs.Reply.{Reply, refused, accepted}
 use Rattle.cube.specs.declared.refusal.Refusal.{Refusal}
 use Rattle.cube.specs.declared.refusal.Refusal.TheVariants.{Dimension, Length, LinkWord, Address, Source, Destination, NoRoute, NotBorneOut, NothingToOffer, Malformed, LogRecord, LogNode}
@@ -18,6 +19,10 @@ number_in NothingToOffer = 9
 number_in Malformed = 10
 number_in LogRecord = 11
 number_in LogNode = 12
+
+-- the words of a refusal, by its number
+abbrev pub words_of : Refusal → List ℕ
+words_of r = codes "refused " ++ decimal (number_in r)
 
 -- what an answer says, an acceptance in the words of f
 abbrev pub saying : {A B : Type 0} → (A → B) → Result A Refusal → Reply B

@@ -1,6 +1,6 @@
 // Why a job refuses what it is given.
-ghost use Rattle.std.specs.Prelude.{◌≡◌, cond, Ok, Err};
-ghost use Rattle.cube.specs.Refusals.{number_in};
+ghost use Rattle.std.specs.Prelude.{◌≡◌, cond, Ok, Err, Some};
+ghost use Rattle.cube.specs.Refusals.{number_in, words_of};
 
 use std::error::Error;
 use std::fmt;
@@ -53,6 +53,8 @@ impl From<Refusal> for u32 {
 }
 
 impl fmt::Display for Refusal {
+    ghost output = { λ refusal. Some (words_of refusal) };
+
     fn fmt<W: fmt::Write>(&self, f: &mut fmt::Formatter<W>) -> fmt::Result {
         write!(f, "refused {}", u32::from(*self))
     }

@@ -58,7 +58,7 @@ fn is_well_formed(row: &[u8]) -> bool
 }
 
 // A record's refusal, if it has one.
-#[tactic(auto, using(cube::proofs::Refusals::tests_in_turn), unfolding(cube::specs::Reply::refusal, log_rules::specs::Refresh::tests))]
+#[tactic(auto, using(cube::proofs::Refusals::tests_in_turn, log_rules::proofs::Refusals::malformed, log_rules::proofs::Refusals::by_node))]
 pub fn check(row: &[u8], n: u32) -> Result<(), Refusal>
     ensures { refused_by result ≡ refusal (tests n (row.now ∷ [])) }
 {

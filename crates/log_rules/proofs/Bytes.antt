@@ -66,11 +66,6 @@ pub age_wraps : (sweep : ℕ) (r : List ℕ) → word r 4 < 65536 → (sweep + (
 unfolding age
 age_wraps sweep r h = omega arith
 
--- and no other number, added to the record's sweep, wraps to the present one
-pub age_only : (sweep : ℕ) (r : List ℕ) (x : ℕ) → x < 65536 → word r 4 < 65536 → (x + word r 4) % 65536 ≡ sweep → x ≡ age sweep r
-unfolding age
-age_only sweep r x h l e = omega arith
-
 -- the byte of an age from the future, and of any other
 pub byte_ahead : (x : ℕ) → 32768 ≤ x → cond (leb 32768 x) 0 (age_byte x) ≡ 0
 byte_ahead x h = rw (le-leb 32768 x h)

@@ -63,6 +63,18 @@ from_mask n m (pair ∷ pairs) =
 pub narrow_mask : (n : ℕ) (pairs : List (List ℕ)) (m top : ℕ) → m ≡ fold marking 0 pairs → top ≡ 2 ^ n → ltb m top ≡ narrow n (words_in pairs)
 narrow_mask n pairs m top e f = rw (e, f) (from_mask n 0 pairs ∙ ap (λ (t : Bool). t && narrow n (words_in pairs)) (lt-ltb 0 (2 ^ n) (pow_pos n)))
 
+-- ---- a table that is stored in turn
+
+-- after the last store a list that is the table is all there
+all_written :
+    (f : ℕ → ℕ) (n : ℕ) (old new all : List ℕ) (k : ℕ) →
+    all ≡ table f n →
+    length old ≡ n →
+    k ≡ length old →
+    new ≡ written f old k →
+    new ≡ all
+all_written f n old new all k whole sized last e = written_all f old new k last e ∙ ap (table f) sized ∙ sym whole
+
 -- ---- the words as a table
 
 -- the number of a pair, by its place
@@ -91,8 +103,7 @@ pub words_written :
     k ≡ length old →
     new ≡ written (number_at pairs) old k →
     new ≡ words_in pairs
-words_written pairs old new k sized last e =
-    written_all (number_at pairs) old new k last e ∙ ap (table (number_at pairs)) sized ∙ sym (words_table pairs)
+words_written pairs old new k sized last e = all_written (number_at pairs) (length pairs) old new (words_in pairs) k (words_table pairs) sized last e
 
 -- ---- bytes that are copied
 
@@ -108,9 +119,8 @@ pub bytes_written :
     new ≡ written (byte_at bytes) old k →
     new ≡ bytes
 bytes_written bytes old new k sized last e =
-    written_all (byte_at bytes) old new k last e
-    ∙ ap (table (byte_at bytes)) sized
-    ∙ sym (table_ext (byte_at bytes) (length bytes) bytes refl (λ a h. refl))
+    let all = table_ext (byte_at bytes) (length bytes) bytes refl (λ a h. refl) in
+    all_written (byte_at bytes) (length bytes) old new bytes k all sized last e
 
 -- what the check applies where words or bytes are stored in turn
 pub ruleset in_turn = (written_none, written_next)

@@ -93,7 +93,7 @@ impl<'a> Parts<'a> {
     }
 }
 
-// Copies bytes to as many places. By place, and not by `copy_from_slice`: that would be a memmove, which the archive for C asks nobody for.
+// Copies bytes to as many places. By place: `copy_from_slice` is a memmove, and the archive for C needs none from outside.
 #[tactic(auto, using(crate::proofs::Words::in_turn))]
 fn copy(bytes: &[u8], places: &mut [u8])
     requires { length places.old ≡ length bytes.now }

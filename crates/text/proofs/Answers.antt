@@ -9,9 +9,6 @@ use lib.ListN.{length, take, drop, length-append}
 use lib.Pow.{pow_mono}
 use lib.Seq.{take_at}
 use Rattle.cube.specs.Reply.{Reply, refused, accepted}
-use Rattle.cube.specs.Refusals.{number_in}
-use Rattle.cube.specs.declared.refusal.Refusal.{Refusal}
-use Rattle.cube.specs.declared.refusal.Refusal.TheVariants.{Dimension, Length, LinkWord, Address, Source, Destination, NoRoute, NotBorneOut, NothingToOffer, Malformed, LogRecord, LogNode}
 use Rattle.cube.proofs.Reply.{refused_accepted}
 use Rattle.report.specs.Report.{Report, report, cube}
 use Rattle.safety.specs.Safety.{bits_of}
@@ -119,18 +116,3 @@ pub length_report : (R : Report) → Fits R → length (listed (accepted R.dim) 
 length_report R fits =
     let room = length_listed (accepted R.dim) R.status R.links (placed R fits) in
     rw (listed_whole R fits) at room
-
--- no refusal's number is above 12
-pub short_number : (e : Refusal) → number_in e ≤ 12
-short_number Dimension = omega arith
-short_number Length = omega arith
-short_number LinkWord = omega arith
-short_number Address = omega arith
-short_number Source = omega arith
-short_number Destination = omega arith
-short_number NoRoute = omega arith
-short_number NotBorneOut = omega arith
-short_number NothingToOffer = omega arith
-short_number Malformed = omega arith
-short_number LogRecord = omega arith
-short_number LogNode = omega arith

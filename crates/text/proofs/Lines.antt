@@ -125,7 +125,7 @@ module _ (R : Report) (fits : Fits R) where
   whole = rw (take_whole R.status (2 ^ R.dim) fits.status_size, take_whole R.links (2 ^ R.dim) fits.links_size)
 
   pub listed_whole : listed_of (accepted R.dim) R.status R.links ≡ listed (accepted R.dim) R.status R.links
-  listed_whole = rw (take_whole R.status (2 ^ R.dim) fits.status_size, take_whole R.links (2 ^ R.dim) fits.links_size)
+  listed_whole = ap (λ (S : Report). listed (accepted R.dim) S.status S.links) whole
 
   pub report_listed :
       (vs : List ℕ) →

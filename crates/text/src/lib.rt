@@ -25,7 +25,7 @@ pub fn buffer() -> [u8; LONGEST]
     [0; LONGEST]
 }
 
-// The name of a class between two spaces; not by `Display`, whose bytes would go to the page by std's writer over a slice.
+// The name of a class between two spaces; not by `Display`, whose bytes would reach the page by std's writer over a slice (see `Page`).
 #[tactic(auto, unfolding(crate::specs::Listing::spaced))]
 fn name_of(class: Class) -> &'static str
     ensures { result.now ≡ spec.spaced class }

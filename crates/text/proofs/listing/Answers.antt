@@ -7,9 +7,10 @@ use Rattle.lines.specs.Put.{Puts}
 use Rattle.lines.proofs.Placing.{puts_whole}
 use Rattle.cube.specs.Refusals.{number_in}
 use Rattle.cube.specs.Reply.{refused}
+use Rattle.cube.proofs.Refusals.{number_range}
 use Rattle.report.specs.Report.{reported}
 use Rattle.text.specs.Listing.{listing, places}
-use Rattle.text.proofs.Answers.{refused_text, length_listed, length_report, short_number}
+use Rattle.text.proofs.Answers.{refused_text, length_listed, length_report}
 use Rattle.text.proofs.listing.Goals as goal
 use Rattle.text.proofs.listing.Goals.{Joined-opened, in-Ok, in-Err}
 
@@ -22,9 +23,10 @@ put c =
           rw (w.page-is, read.1) (w.put_cube.ensures, length_report (reported w.in-Ok.report) read.0))
       | in-Err w ↦
           (let m = number_in w.in-Err.refusal in
-          let text = refused_text m (omega (arith, short_number w.in-Err.refusal)) in
+          let few = (number_range w.in-Err.refusal).1 in
           let said = rw w.from.ensures at w.put_titled.ensures in
-          rw (w.page-is, w.in-Err.ensures) (rw text.0 at said, length_listed (refused m) places places (omega (arith, short_number w.in-Err.refusal))))
+          let text = (refused_text m (omega (arith, few))).0 in
+          rw (w.page-is, w.in-Err.ensures) (rw text at said, length_listed (refused m) places places (omega (arith, few))))
     ]
 
 pub returns : goal.returns
